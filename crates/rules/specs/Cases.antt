@@ -1,0 +1,186 @@
+-- Document 01's worked cases, those marked (P), and a case for each of its 'Mistakes that look reasonable', by one statement over a table
+-- of cases: each answer is computed from the definitions and is the one that the paper tells. Assumes nothing.
+use mathlib.Core.Path.{_≡_, refl}
+use mathlib.Core.Bool.{Bool, true, false, cond}
+use mathlib.Core.List.{List, [], _∷_, _++_, map}
+use Prim.Native.Nat.{ℕ, _^_, _+_, _-_}
+use lib.Dec.{eqb}
+use lib.IntN.{pos, negsuc}
+use lib.ListN.{length, replicate}
+use Rattle.rules.specs.declared.Table.{Table}
+use Rattle.rules.specs.declared.Record.{Record}
+use Rattle.rules.specs.declared.Marking.{Marking}
+use Rattle.rules.specs.declared.Step.{Step}
+use Rattle.rules.specs.declared.SetAnswer.{SetAnswer}
+use Rattle.rules.specs.declared.MarginAnswer.{MarginAnswer}
+use Rattle.rules.specs.declared.MarginAnswer.the-variants.{By}
+use Rattle.rules.specs.declared.HoldUpAnswer.{HoldUpAnswer}
+use Rattle.rules.specs.declared.HoldUpAnswer.the-variants.{Blocked}
+use Rattle.rules.specs.declared.CheckAnswer.{CheckAnswer}
+use Rattle.rules.specs.declared.CheckAnswer.the-variants.{Accepts, Rejects}
+use Rattle.rules.specs.declared.GuardedAnswer.{GuardedAnswer}
+use Rattle.rules.specs.declared.RemedyAnswer.{RemedyAnswer}
+use Rattle.rules.specs.Counting.{every, some, lowest, howMany, repeated, placesFrom, belowFrom}
+use Rattle.rules.specs.Numbers.{firstOf}
+use Rattle.rules.specs.EventSet.{has, setOf, sizeOf, lowestOf}
+use Rattle.rules.specs.Holds.{recordOf}
+use Rattle.rules.specs.Fields.{field, bytesOf}
+use Rattle.rules.specs.Judge.{timeFits, relationNumber, tableNumber, recordFits, markingNumber, markingNumberFor, judged}
+use Rattle.rules.specs.Image.{relationAt, relationImageNumber, tableImageNumber, tableIn, readTable, recordAt, markingImageNumber, readMarking, recordImage, recordImages, markingImage}
+use Rattle.rules.specs.Enabled.{stops, blocks, isEnabled}
+use Rattle.rules.specs.Effect.{withDeadline, excludes, includes, given, smallest, executed, withInclusion, effectAt, effect}
+use Rattle.rules.specs.Time.{isDue, anyDue, dueSet, later, time, plainTickNumber, plainTick}
+use Rattle.rules.specs.Ask.{requestNumber, reportNumber, request}
+use Rattle.rules.specs.Margin.{marginOf, margin}
+use Rattle.rules.specs.HoldUp.{holdUpOf, holdUp}
+use Rattle.rules.specs.Closure.{busy, follows, widened, widenedFully, closure, closureAnswer}
+use Rattle.rules.specs.Check.{unreportable, uncausable, waiting, awaited, onCycle, reopening, reviving, verdict, check}
+use Rattle.rules.specs.Guard.{holdsBack, needed, ready, orderOf, taken, takenAll, executedOf, caused, guarded, guardedTick}
+use Rattle.rules.specs.Remedy.{inTurn, effects, discharges, shortest, remedyNumber, remedy}
+use Rattle.rules.specs.Trace.{stepNumber, stepDone, stepped, endOf, answersOf, traceNumber, stepsIn}
+use Rattle.rules.specs.Station.{station}
+use Rattle.rules.specs.Shop as shop
+
+-- A case: what is asked, of a table and of the marking after some steps from another, and what the paper tells.
+pub data Question : Type 0 where
+  checked : Question
+  closed : Question
+  requested : ℕ → Question
+  held : ℕ → Question
+  ticked : Question
+  guardedly : Question
+  offered : List ℕ → List ℕ → Question
+  margins : ℕ → Question
+  state : ℕ → Question
+  stateBytes : ℕ → Question
+  causedAlong : List Step → Question
+
+pub data Answer : Type 0 where
+  verdicts : CheckAnswer → Answer
+  set : SetAnswer → Answer
+  number : ℕ → Answer
+  hold : HoldUpAnswer → Answer
+  passed : GuardedAnswer → Answer
+  remedies : RemedyAnswer → Answer
+  by : MarginAnswer → Answer
+  is : Record → Answer
+  bytes : List ℕ → Answer
+  events : List ℕ → Answer
+
+pub record Case : Type 0 where
+  pub table : Table
+  pub marking : Marking
+  pub asked : Question
+  pub told : Answer
+
+-- the events that the guarded ticks of a trace cause, in order
+unfoldable pub causedIn : Table → Marking → List Step → List ℕ
+causedIn t m [] = []
+causedIn t m (s ∷ rest) = cond (eqb (s .kind) 3) (caused t m) [] ++ causedIn t (stepped t m s) rest
+
+unfoldable pub answer : Table → Marking → Question → Answer
+answer t m checked = verdicts (check t m)
+answer t m closed = set (closureAnswer t m)
+answer t m (requested e) = number (request t m e .number)
+answer t m (held e) = hold (holdUp t m e)
+answer t m ticked = number (plainTick t m .number)
+answer t m guardedly = passed (guardedTick t m)
+answer t m (offered preferred fallback) = remedies (remedy t m preferred fallback)
+answer t m (margins k) = by (margin t m k)
+answer t m (state e) = is (recordOf m e)
+answer t m (stateBytes e) = bytes (recordImage (recordOf m e))
+answer t m (causedAlong steps) = events (causedIn t m steps)
+
+abbrev asks : Table → Marking → Question → Answer → Case
+asks t m q a = record { table = t; marking = m; asked = q; told = a }
+
+-- of the shop's table P, after some steps from its start
+abbrev after : List Step → Question → Answer → Case
+after steps = asks shop.P (endOf shop.P shop.start steps)
+
+abbrev setIs : ℕ → Answer
+setIs w = set (record { number = 0; set = w })
+
+abbrev remedyIs : ℕ → Bool → ℕ → Answer
+remedyIs n second l = remedies (record { number = n; fallback = second; length = l })
+
+abbrev causes : List ℕ → Marking → Answer
+causes es m = passed (record { number = 0; reason = 0; place = 0; caused = es ++ replicate (64 - length es) 0; count = length es; marking = m })
+
+unfoldable pub worked : List Case
+worked =
+    -- P is accepted; closure {1, 2, 4}
+    after [] checked (verdicts Accepts)
+    ∷ after [] closed (setIs (2 ^ 1 + 2 ^ 2 + 2 ^ 4))
+    -- after leak, request flush: 10, hold-up relation 1
+    ∷ after (shop.leak ∷ []) (requested 1) (number 10)
+    ∷ after (shop.leak ∷ []) (held 1) (hold (Blocked 1))
+    -- leak, three guarded ticks: none caused; flush deadline 0. A plain tick: 11. A guarded tick: causes 2, 4, 1
+    ∷ after [] (causedAlong shop.leakThenThree) (events [])
+    ∷ after shop.leakThenThree (state 1) (is (shop.pendingWithin true 0))
+    ∷ after shop.leakThenThree ticked (number 11)
+    ∷ after shop.leakThenThree guardedly (causes (2 ∷ 4 ∷ 1 ∷ []) (shop.marking (shop.happened 4 ∷ shop.happened 1 ∷ shop.happened 1 ∷ shop.idle ∷ shop.happened 1 ∷ [])))
+    -- there, preferred 1, 2, 4 and fallback 4, 2, 1, 2: the first three of the fallback
+    ∷ after shop.leakThenThree (offered (1 ∷ 2 ∷ 4 ∷ []) (4 ∷ 2 ∷ 1 ∷ 2 ∷ [])) (remedyIs 0 true 3)
+    -- there, both lists holding only 4: 13
+    ∷ after shop.leakThenThree (offered (4 ∷ []) (4 ∷ [])) (remedyIs 13 false 0)
+    -- leak, one guarded tick, standby, five guarded ticks: none caused; flush excluded, deadline 0. Leak again: included, deadline 3
+    ∷ after [] (causedAlong shop.leakStandbyFive) (events [])
+    ∷ after shop.leakStandbyFive (state 1) (is (shop.pendingWithin false 0))
+    ∷ after (shop.leakStandbyFive ++ (shop.leak ∷ [])) (state 1) (is (shop.pendingWithin true 3))
+    -- isolate not causable: reason 2, event 2
+    ∷ asks shop.P-uncausable shop.start checked (verdicts (Rejects 2 2))
+    -- relation 1 with time 1: reason 3, relation 1
+    ∷ asks shop.P-timed shop.start checked (verdicts (Rejects 3 1))
+    -- added relation 6, isolate condition flush 0: reason 4, event 1
+    ∷ asks (shop.P+ (shop.condition 2 1 0)) shop.start checked (verdicts (Rejects 4 1))
+    -- isolate response drain: reason 5, relation 6
+    ∷ asks (shop.P+ (shop.response 2 4 1)) shop.start checked (verdicts (Rejects 5 6))
+    ∷ asks (shop.P+ (shop.eventually 2 4)) shop.start checked (verdicts (Rejects 5 6))
+    -- isolate includes flush: reason 6, relation 6
+    ∷ asks (shop.P+ (shop.includes 2 1)) shop.start checked (verdicts (Rejects 6 6))
+    -- standby excludes leak: reason 1, event 0
+    ∷ asks (shop.P+ (shop.excludes 3 0)) shop.start checked (verdicts (Rejects 1 0))
+    -- flush includes flush: accepted
+    ∷ asks (shop.P+ (shop.includes 1 1)) shop.start checked (verdicts Accepts)
+    -- time 5 and age 3, 5, 9: margin −2, 0, 4
+    ∷ asks shop.waits5 (shop.marking (shop.idle ∷ shop.happened 3 ∷ [])) (margins 0) (by (By (negsuc 1)))
+    ∷ asks shop.waits5 (shop.marking (shop.idle ∷ shop.happened 5 ∷ [])) (margins 0) (by (By (pos 0)))
+    ∷ asks shop.waits5 (shop.marking (shop.idle ∷ shop.happened 9 ∷ [])) (margins 0) (by (By (pos 4)))
+    -- the hex table and marking: a guarded tick causes 0; event 0 then reads 80 00 00 03 C0 00 00 00
+    ∷ asks (readTable shop.hexTable .table) (readMarking 2 shop.hexMarking .marking) (causedAlong (shop.guarded ∷ [])) (events (0 ∷ []))
+    ∷ asks (readTable shop.hexTable .table) (endOf (readTable shop.hexTable .table) (readMarking 2 shop.hexMarking .marking) (shop.guarded ∷ [])) (stateBytes 0) (bytes shop.hexRecord)
+    ∷ []
+
+unfoldable pub mistakes : List Case
+mistakes =
+    -- Trying a list in the live marking and putting back only the last event: isolate of the preferred list must not serve the fallback
+    after shop.leakThenThree (offered (2 ∷ 1 ∷ []) (4 ∷ 1 ∷ [])) (remedyIs 13 false 0)
+    -- Letting an excluded event at deadline 0 stop time, or halting its countdown
+    ∷ asks shop.waits5 (shop.marking (shop.pendingWithin false 0 ∷ shop.idle ∷ [])) ticked (number 0)
+    ∷ asks shop.waits5 (endOf shop.waits5 (shop.marking (shop.pendingWithin false 2 ∷ shop.idle ∷ [])) (shop.plain ∷ [])) (state 0) (is (shop.pendingWithin false 1))
+    -- Applying effects before clearing e, which loses a self-response
+    ∷ asks selfResponse (endOf selfResponse (shop.marking (shop.idle ∷ [])) (shop.request 0 ∷ [])) (state 0)
+    (is (record { age = 0; deadline = 3; happened = true; included = true; pending = true; bounded = true }))
+    -- Keeping the smaller of old and new deadline
+    ∷ after (shop.leak ∷ shop.guarded ∷ shop.guarded ∷ shop.leak ∷ []) (state 1) (is (shop.pendingWithin true 3))
+    -- Executing a needed event that an earlier one has excluded
+    ∷ asks rivals bothDue (causedAlong (shop.guarded ∷ [])) (events (0 ∷ []))
+    ∷ []
+  where
+    selfResponse : Table
+    selfResponse = shop.table 1 1 1 (shop.response 0 0 3 ∷ [])
+
+    rivals : Table
+    rivals = shop.table 2 3 3 (shop.excludes 0 1 ∷ shop.excludes 1 0 ∷ [])
+
+    bothDue : Marking
+    bothDue = shop.marking (shop.pendingWithin true 0 ∷ shop.pendingWithin true 0 ∷ [])
+
+unfoldable pub cases : List Case
+cases = worked ++ mistakes
+
+-- every case is answered as told
+pub told-right : map (λ c. answer (c .table) (c .marking) (c .asked)) cases ≡ map (λ c. c .told) cases
+unfolding cases worked mistakes answer causedIn every some lowest howMany repeated placesFrom belowFrom firstOf has setOf sizeOf lowestOf field bytesOf timeFits relationNumber tableNumber recordFits markingNumber markingNumberFor judged relationAt relationImageNumber tableImageNumber tableIn readTable recordAt markingImageNumber readMarking recordImage recordImages stops blocks isEnabled withDeadline excludes includes given smallest executed withInclusion effectAt effect isDue anyDue dueSet later time plainTickNumber plainTick requestNumber reportNumber request marginOf margin holdUpOf holdUp busy follows widened widenedFully closure closureAnswer unreportable uncausable waiting awaited onCycle reopening reviving verdict check holdsBack needed ready orderOf taken takenAll executedOf caused guarded guardedTick inTurn effects discharges shortest remedyNumber remedy stepNumber stepDone stepped endOf answersOf traceNumber stepsIn station
+told-right = refl

@@ -1,0 +1,21 @@
+-- Hold-up of an event: enabled; excluded; or the lowest-numbered relation that blocks it.
+use mathlib.Core.Bool.{Bool, not, cond}
+use Prim.Native.Nat.{ℕ}
+use lib.Dec.{ltb}
+use Rattle.rules.specs.declared.Table.{Table}
+use Rattle.rules.specs.declared.Marking.{Marking}
+use Rattle.rules.specs.declared.HoldUpAnswer.{HoldUpAnswer}
+use Rattle.rules.specs.declared.HoldUpAnswer.the-variants.{Refused, Enabled, Excluded, Blocked}
+use Rattle.rules.specs.Counting.{lowest}
+use Rattle.rules.specs.Numbers.{_else_, done}
+use Rattle.rules.specs.Holds.{recordOf}
+use Rattle.rules.specs.Judge.{judged, eventNumber}
+use Rattle.rules.specs.Enabled.{blocks}
+
+unfoldable pub holdUpOf : Table → Marking → ℕ → HoldUpAnswer
+holdUpOf t m e =
+    let first = lowest (t .count) (blocks t m e) in
+    cond (not (recordOf m e .included)) Excluded (cond (ltb first (t .count)) (Blocked first) Enabled)
+
+unfoldable pub holdUp : Table → Marking → ℕ → HoldUpAnswer
+holdUp t m e = let number = judged t m else eventNumber t e in done number (holdUpOf t m e) (Refused number)
