@@ -19,5 +19,6 @@ pub mod Remedy
 pub mod Trace
 pub mod Station
 -- Document 01's worked cases, computed.
+pub mod Laws
 pub mod Shop
 pub mod Cases

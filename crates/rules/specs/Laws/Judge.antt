@@ -1,0 +1,92 @@
+-- What a table and a marking that are judged 'done' satisfy. Assumes nothing.
+use mathlib.Core.Path.{_≡_, refl, _∙_, ap, sym}
+use mathlib.Core.Bool.{Bool, true, false, not, _&&_, cond}
+use Prim.Native.Nat.{ℕ, _<_, _≤_}
+use native.Mathlib.Omega.{arith}
+use lib.Dec.{eqb, leb, ltb}
+use borrow.Author.Tests.{leb-true, ltb-true, eqb-true}
+use Rattle.rules.specs.declared.Relation.{Relation}
+use Rattle.rules.specs.declared.Table.{Table}
+use Rattle.rules.specs.declared.Record.{Record}
+use Rattle.rules.specs.declared.Marking.{Marking}
+use Rattle.rules.specs.Numbers.{_if_, _else_}
+use Rattle.rules.specs.Holds.{limit, isCondition, isResponse, relationOf, recordOf}
+use Rattle.rules.specs.Judge.{eventsFit, relationsFit, timeFits, relationNumber, tableNumber, recordFits, recordNumber, markingNumber, markingNumberFor, judged}
+use Rattle.rules.specs.Laws.Tests.{both, not-false, not-true}
+use Rattle.rules.specs.Laws.Numbers.{if-done, both-done, first-each}
+
+-- a relation that is judged 'done'
+pub record GoodRelation (events : ℕ) (k : Relation) : Type 0 where
+  pub left-exists : k .left < events
+  pub right-exists : k .right < events
+  pub kind-some : 1 ≤ k .kind
+  pub kind-small : k .kind ≤ 5
+  pub fits : timeFits k ≡ true
+
+-- a table that is judged 'done'
+pub record GoodTable (t : Table) : Type 0 where
+  pub some-events : 1 ≤ t .events
+  pub few-events : t .events ≤ 64
+  pub few-relations : t .count ≤ 256
+  pub relations-good : (k : ℕ) → k < t .count → GoodRelation (t .events) (relationOf t k)
+
+-- a marking for so many events that is judged 'done'
+pub record GoodMarking (events : ℕ) (m : Marking) : Type 0 where
+  pub same-events : m .events ≡ events
+  pub records-fit : (e : ℕ) → e < events → recordFits (recordOf m e) ≡ true
+
+-- what both give
+pub record Good (t : Table) (m : Marking) : Type 0 where
+  pub table-good : GoodTable t
+  pub marking-good : GoodMarking (t .events) m
+
+good-relation : (events : ℕ) (k : Relation) → relationNumber events k ≡ 0 → GoodRelation events k
+unfolding relationNumber
+good-relation events k h =
+    let kind-ok = leb 1 (k .kind) && leb (k .kind) 5 in
+    let ends-ok = ltb (k .left) events && ltb (k .right) events in
+    let p = both-done (4 if not kind-ok) _ h in
+    let q = both-done (5 if not ends-ok) _ (p .1) in
+    let kinds = both (leb 1 (k .kind)) (leb (k .kind) 5) (not-false kind-ok (if-done 3 (not kind-ok) (p .0))) in
+    let ends = both (ltb (k .left) events) (ltb (k .right) events) (not-false ends-ok (if-done 4 (not ends-ok) (q .0))) in
+    record {
+      left-exists = ltb-true (k .left) events (ends .0);
+      right-exists = ltb-true (k .right) events (ends .1);
+      kind-some = leb-true 1 (k .kind) (kinds .0);
+      kind-small = leb-true (k .kind) 5 (kinds .1);
+      fits = not-false (timeFits k) (if-done 5 (not (timeFits k)) (q .1));
+    }
+
+pub good-table : (t : Table) → tableNumber t ≡ 0 → GoodTable t
+unfolding tableNumber
+good-table t h =
+    let counts-ok = eventsFit (t .events) && relationsFit (t .count) in
+    let p = both-done (3 if not counts-ok) _ h in
+    let counts = both (eventsFit (t .events)) (relationsFit (t .count)) (not-false counts-ok (if-done 2 (not counts-ok) (p .0))) in
+    let events = both (leb 1 (t .events)) (leb (t .events) 64) (counts .0) in
+    record {
+      some-events = leb-true 1 (t .events) (events .0);
+      few-events = leb-true (t .events) 64 (events .1);
+      few-relations = leb-true (t .count) 256 (counts .1);
+      relations-good = λ k b. good-relation (t .events) (relationOf t k) (first-each (λ k. relationNumber (t .events) (relationOf t k)) (t .count) k (p .1) b);
+    }
+
+pub good-marking : (events : ℕ) (m : Marking) → markingNumberFor events m ≡ 0 → GoodMarking events m
+unfolding markingNumberFor markingNumber
+good-marking events m h =
+    let p = both-done (3 if not (eventsFit events)) _ h in
+    let q = both-done (1 if not (eqb (m .events) events)) _ (p .1) in
+    let r = both-done (3 if not (eventsFit (m .events))) _ (q .1) in
+    let e : m .events ≡ events = eqb-true (m .events) events (not-false _ (if-done 0 (not (eqb (m .events) events)) (q .0))) in
+    record {
+      same-events = e;
+      records-fit = λ x b.
+          let done = first-each (λ e. recordNumber (recordOf m e)) (m .events) x (r .1) (rw e b) in
+          not-false (recordFits (recordOf m x)) (if-done 6 (not (recordFits (recordOf m x))) done);
+    }
+
+pub good : (t : Table) (m : Marking) → judged t m ≡ 0 → Good t m
+unfolding judged
+good t m h =
+    let p = both-done (tableNumber t) (markingNumberFor (t .events) m) h in
+    record { table-good = good-table t (p .0); marking-good = good-marking (t .events) m (p .1) }
