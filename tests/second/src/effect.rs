@@ -1,0 +1,38 @@
+//! The effect of an event.
+
+use crate::process::{Deadline, Meaning, Process, State};
+use std::collections::BTreeMap;
+
+pub fn effect(process: &Process, state: &State, event: usize) -> State {
+    let mut after = state.clone();
+
+    // Cleared before anything else, or a response to itself would be lost.
+    after.of[event].age = Some(0);
+    after.of[event].pending = None;
+
+    // Exclusions before inclusions, so that inclusion wins.
+    for link in process.relations_of(event) {
+        if link.meaning == Meaning::Excludes {
+            after.of[link.right].included = false;
+        }
+    }
+    for link in process.relations_of(event) {
+        if link.meaning == Meaning::Includes {
+            after.of[link.right].included = true;
+        }
+    }
+
+    // The smallest among the event's own responses is settled first and then
+    // replaces the old deadline, whichever of the two is smaller.
+    let mut deadlines: BTreeMap<usize, Deadline> = BTreeMap::new();
+    for link in process.relations_of(event) {
+        if let Meaning::Response(deadline) = link.meaning {
+            let smallest = deadlines.entry(link.right).or_insert(deadline);
+            *smallest = deadline.min(*smallest);
+        }
+    }
+    for (target, deadline) in deadlines {
+        after.of[target].pending = Some(deadline);
+    }
+    after
+}

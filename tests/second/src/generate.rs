@@ -1,0 +1,496 @@
+//! Random cases, one function for each call. Sound and damaged values are
+//! mixed so that every refusal number and every reason of the check comes up.
+
+mod damage;
+mod shape;
+
+use crate::bits::BitWriter;
+use crate::case::{Case, Pair};
+use crate::decoded::{Marking, Record, Relation, Table, MOST_EVENTS, MOST_RELATIONS};
+use crate::event_set::from_word;
+use crate::guarded::guarded_tick;
+use crate::image::put_record;
+use crate::rng::Rng;
+use crate::trace::{Step, LONGEST_TRACE};
+
+type Question = fn(&mut Rng) -> Case;
+
+/// The calls with the most behaviour are listed twice, to be asked more often.
+const QUESTIONS: [Question; 27] = [
+    read_table_case,
+    read_marking_case,
+    write_marking_case,
+    fresh_case,
+    judge_table_case,
+    judge_marking_case,
+    size_case,
+    lowest_case,
+    enabled_case,
+    due_case,
+    request_case,
+    report_case,
+    plain_tick_case,
+    margin_case,
+    hold_up_case,
+    closure_case,
+    check_case,
+    check_case,
+    guarded_tick_case,
+    guarded_tick_case,
+    remedies_case,
+    remedies_case,
+    run_case,
+    run_case,
+    run_bytes_case,
+    station_case,
+    station_case,
+];
+
+/// A case of any call.
+pub fn case(rng: &mut Rng) -> Case {
+    rng.one_of(QUESTIONS)(rng)
+}
+
+/// A table and marking that the judge accepts.
+pub fn sound_pair(rng: &mut Rng) -> Pair {
+    let (mut table, mut marking) = shape::pair(rng);
+    if rng.chance(50) {
+        damage::fill_unused_places(rng, &mut table, &mut marking);
+    }
+    Pair {
+        table: Box::new(table),
+        marking: Box::new(marking),
+    }
+}
+
+/// Mostly sound; else one or both parts are damaged.
+pub fn pair(rng: &mut Rng) -> Pair {
+    let mut pair = sound_pair(rng);
+    if rng.chance(25) {
+        let which = rng.below(4);
+        if which != 0 {
+            damage::damage_table(rng, &mut pair.table);
+        }
+        if which != 1 && which != 2 {
+            damage::damage_marking(rng, &mut pair.marking);
+        }
+    }
+    pair
+}
+
+/// The image of a table as it stands, judged or not. Counts are cut to what
+/// the header can hold, and the image is as long as its counts then ask.
+pub fn table_image(table: &Table) -> Vec<u8> {
+    let events = table.events.min(127);
+    let count = table.count.min(511);
+    let mut writer = BitWriter::new();
+    writer.put(events as u32, 7);
+    writer.put(count as u32, 9);
+    writer.put(0, 16);
+    let controllable = from_word(table.controllable, MOST_EVENTS);
+    let causable = from_word(table.causable, MOST_EVENTS);
+    for event in 0..events {
+        writer.put_flag(controllable.contains(&event));
+        writer.put_flag(causable.contains(&event));
+        writer.put(0, 6);
+    }
+    for number in 0..count {
+        let relation = table
+            .relations
+            .get(number)
+            .copied()
+            .unwrap_or(Relation::EMPTY);
+        writer.put(u32::from(relation.kind), 3);
+        writer.put(u32::from(relation.left), 6);
+        writer.put(u32::from(relation.right), 6);
+        writer.put_flag(relation.bounded);
+        writer.put(relation.time, 30);
+        writer.put(0, 2);
+    }
+    writer.into_bytes()
+}
+
+/// The image of a marking as it stands, judged or not.
+pub fn marking_image(marking: &Marking) -> Vec<u8> {
+    let mut writer = BitWriter::new();
+    for event in 0..marking.events.min(127) {
+        let record = marking.records.get(event).copied();
+        put_record(&mut writer, &record.unwrap_or(Record::EMPTY));
+    }
+    writer.into_bytes()
+}
+
+/// A table image, damaged in so many of a hundred cases.
+fn some_table_image(rng: &mut Rng, table: &Table, damaged_percent: usize) -> Vec<u8> {
+    if !rng.chance(damaged_percent) {
+        return table_image(table);
+    }
+    // One time in four two faults, to ask for the order of refusals.
+    let faults = rng.one_of([1, 1, 1, 2]);
+    let mut table = *table;
+    let mut in_the_image = faults;
+    if rng.flag() {
+        damage::damage_table(rng, &mut table);
+        in_the_image -= 1;
+    }
+    let mut image = table_image(&table);
+    for _ in 0..in_the_image {
+        damage::damage_table_image(rng, &table, &mut image);
+    }
+    image
+}
+
+fn some_marking_image(rng: &mut Rng, marking: &Marking, damaged_percent: usize) -> Vec<u8> {
+    if !rng.chance(damaged_percent) {
+        return marking_image(marking);
+    }
+    let mut marking = *marking;
+    if rng.chance(60) {
+        damage::damage_record(rng, &mut marking);
+    }
+    let mut image = marking_image(&marking);
+    if rng.chance(60) {
+        damage::damage_marking_image(rng, &mut image);
+    }
+    image
+}
+
+/// An event count, mostly the one given.
+fn some_event_count(rng: &mut Rng, fitting: usize) -> usize {
+    if rng.chance(75) {
+        return fitting;
+    }
+    rng.one_of([
+        0,
+        1,
+        fitting.saturating_sub(1),
+        fitting.saturating_add(1),
+        63,
+        64,
+        65,
+        66,
+        127,
+        128,
+        256,
+        usize::MAX,
+    ])
+}
+
+/// A number asked about, mostly one that exists.
+fn some_number(rng: &mut Rng, existing: usize) -> usize {
+    if existing > 0 && rng.chance(85) {
+        return rng.below(existing);
+    }
+    rng.one_of([
+        existing,
+        existing.saturating_add(1),
+        63,
+        64,
+        255,
+        256,
+        usize::MAX,
+    ])
+}
+
+/// An event asked about, more often than not of the given class.
+fn some_event_of_class(rng: &mut Rng, table: &Table, controllable: bool) -> usize {
+    let set = from_word(table.controllable, MOST_EVENTS);
+    let fitting: Vec<usize> = (0..table.events.min(MOST_EVENTS))
+        .filter(|event| set.contains(event) == controllable)
+        .collect();
+    match rng.pick(&fitting) {
+        Some(event) if rng.chance(60) => event,
+        _ => some_number(rng, table.events),
+    }
+}
+
+/// A lent buffer for `needed` bytes with something already in it: exact, with
+/// room to spare, or now and then too short.
+fn some_buffer(rng: &mut Rng, needed: usize) -> Vec<u8> {
+    let length = match rng.below(12) {
+        0 => needed.saturating_sub(1),
+        1 => rng.below(needed),
+        2 => needed + 1,
+        3 | 4 => needed + rng.below(20),
+        _ => needed,
+    };
+    (0..length).map(|_| rng.byte()).collect()
+}
+
+fn some_set(rng: &mut Rng) -> u64 {
+    let word = rng.next_u64();
+    match rng.below(6) {
+        0 => 0,
+        1 => u64::MAX,
+        2 => 2u64.pow(rng.below(64) as u32),
+        // Few members, and those high up: the lowest is then far from 0.
+        3 => word & rng.next_u64() & rng.next_u64(),
+        4 => word / 2u64.pow(32) * 2u64.pow(32),
+        _ => word,
+    }
+}
+
+fn some_step(rng: &mut Rng, table: &Table, guarded_percent: usize) -> Step {
+    if rng.chance(8) {
+        return match rng.below(4) {
+            0 => Step {
+                kind: rng.one_of([4, 5, 128, 255]),
+                event: rng.byte(),
+            },
+            1 => Step {
+                kind: rng.one_of([2, 3]),
+                event: rng.one_of([1, 63, 255]),
+            },
+            2 => Step {
+                kind: rng.one_of([0, 1]),
+                event: table.events.min(200) as u8 + rng.one_of([0, 1, 50]),
+            },
+            _ => Step {
+                kind: rng.byte(),
+                event: rng.byte(),
+            },
+        };
+    }
+    if rng.chance(guarded_percent) {
+        return Step { kind: 3, event: 0 };
+    }
+    if rng.chance(35) {
+        return Step { kind: 2, event: 0 };
+    }
+    let event = rng.below(table.events.min(MOST_EVENTS));
+    let controllable = from_word(table.controllable, MOST_EVENTS);
+    let fitting = if controllable.contains(&event) { 0 } else { 1 };
+    let kind = if rng.chance(90) { fitting } else { 1 - fitting };
+    Step {
+        kind,
+        event: event as u8,
+    }
+}
+
+fn some_steps(rng: &mut Rng, table: &Table) -> Vec<Step> {
+    let length = match rng.below(100) {
+        0..=4 => 0,
+        5 => LONGEST_TRACE,
+        6..=8 => LONGEST_TRACE + 1,
+        9 => LONGEST_TRACE + rng.below(40),
+        10..=29 => rng.between(20, 120),
+        _ => rng.between(1, 20),
+    };
+    // The check is slow here, so long traces ask for it seldom.
+    let guarded_percent = if length > 200 { 2 } else { 35 };
+    (0..length)
+        .map(|_| some_step(rng, table, guarded_percent))
+        .collect()
+}
+
+fn bytes_of(steps: &[Step]) -> Vec<u8> {
+    steps
+        .iter()
+        .flat_map(|step| [step.kind, step.event])
+        .collect()
+}
+
+fn some_step_bytes(rng: &mut Rng, table: &Table) -> Vec<u8> {
+    let mut bytes = bytes_of(&some_steps(rng, table));
+    if rng.chance(8) {
+        if rng.flag() {
+            bytes.push(rng.byte());
+        } else {
+            bytes.pop();
+        }
+    }
+    bytes
+}
+
+/// An operator's list. A random one seldom discharges, so most start from
+/// what a guarded tick would cause.
+fn some_list(rng: &mut Rng, pair: &Pair) -> Vec<u8> {
+    let events = pair.table.events.clamp(1, MOST_EVENTS);
+    let mut list = Vec::new();
+    if rng.chance(70) {
+        let guarded = guarded_tick(&pair.table, &pair.marking);
+        list.extend(guarded.caused.iter().take(usize::from(guarded.count)));
+    }
+    for _ in 0..rng.one_of([0, 0, 1, 1, 2, 4]) {
+        let event = if rng.chance(85) {
+            rng.below(events) as u8
+        } else {
+            rng.one_of([events as u8, 63, 64, 255])
+        };
+        list.insert(rng.between(0, list.len()), event);
+    }
+    if rng.chance(15) && list.len() > 1 {
+        let place = rng.below(list.len() - 1);
+        list.swap(place, place + 1);
+    }
+    if rng.chance(10) {
+        list.truncate(list.len() / 2);
+    }
+    if rng.chance(8) {
+        let length = rng.one_of([254, 255, 256, 300]);
+        while list.len() < length {
+            list.push(rng.below(events) as u8);
+        }
+    }
+    list
+}
+
+pub fn read_table_case(rng: &mut Rng) -> Case {
+    let table = sound_pair(rng).table;
+    let bytes = if rng.chance(3) {
+        let length = rng.below(40);
+        (0..length).map(|_| rng.byte()).collect()
+    } else {
+        some_table_image(rng, &table, 60)
+    };
+    Case::ReadTable { bytes }
+}
+
+pub fn read_marking_case(rng: &mut Rng) -> Case {
+    let marking = sound_pair(rng).marking;
+    let events = some_event_count(rng, marking.events);
+    let bytes = some_marking_image(rng, &marking, 50);
+    Case::ReadMarking { events, bytes }
+}
+
+pub fn write_marking_case(rng: &mut Rng) -> Case {
+    let mut marking = sound_pair(rng).marking;
+    if rng.chance(40) {
+        damage::damage_marking(rng, &mut marking);
+    }
+    let buffer = some_buffer(rng, 8 * marking.events.min(70));
+    Case::WriteMarking { marking, buffer }
+}
+
+pub fn fresh_case(rng: &mut Rng) -> Case {
+    let fitting = rng.between(1, MOST_EVENTS);
+    let events = some_event_count(rng, fitting);
+    Case::Fresh { events }
+}
+
+pub fn judge_table_case(rng: &mut Rng) -> Case {
+    let mut table = sound_pair(rng).table;
+    if rng.chance(70) {
+        damage::damage_table(rng, &mut table);
+    }
+    Case::JudgeTable { table }
+}
+
+pub fn judge_marking_case(rng: &mut Rng) -> Case {
+    let mut marking = sound_pair(rng).marking;
+    let events = some_event_count(rng, marking.events);
+    if rng.chance(50) {
+        damage::damage_marking(rng, &mut marking);
+    }
+    Case::JudgeMarking { events, marking }
+}
+
+pub fn size_case(rng: &mut Rng) -> Case {
+    let set = some_set(rng);
+    Case::Size { set }
+}
+
+pub fn lowest_case(rng: &mut Rng) -> Case {
+    let set = some_set(rng);
+    Case::Lowest { set }
+}
+
+pub fn enabled_case(rng: &mut Rng) -> Case {
+    let pair = pair(rng);
+    let event = some_number(rng, pair.table.events);
+    Case::Enabled { pair, event }
+}
+
+pub fn due_case(rng: &mut Rng) -> Case {
+    Case::Due { pair: pair(rng) }
+}
+
+pub fn request_case(rng: &mut Rng) -> Case {
+    let pair = pair(rng);
+    let event = some_event_of_class(rng, &pair.table, true);
+    Case::Request { pair, event }
+}
+
+pub fn report_case(rng: &mut Rng) -> Case {
+    let pair = pair(rng);
+    let event = some_event_of_class(rng, &pair.table, false);
+    Case::Report { pair, event }
+}
+
+pub fn plain_tick_case(rng: &mut Rng) -> Case {
+    Case::PlainTick { pair: pair(rng) }
+}
+
+pub fn margin_case(rng: &mut Rng) -> Case {
+    let pair = pair(rng);
+    let conditions: Vec<usize> = (0..pair.table.count.min(MOST_RELATIONS))
+        .filter(|&number| pair.table.relations[number].kind == 1)
+        .collect();
+    let relation = match rng.pick(&conditions) {
+        Some(condition) if rng.chance(60) => condition,
+        _ => some_number(rng, pair.table.count),
+    };
+    Case::Margin { pair, relation }
+}
+
+pub fn hold_up_case(rng: &mut Rng) -> Case {
+    let pair = pair(rng);
+    let event = some_number(rng, pair.table.events);
+    Case::HoldUp { pair, event }
+}
+
+pub fn closure_case(rng: &mut Rng) -> Case {
+    Case::Closure { pair: pair(rng) }
+}
+
+pub fn check_case(rng: &mut Rng) -> Case {
+    Case::Check { pair: pair(rng) }
+}
+
+pub fn guarded_tick_case(rng: &mut Rng) -> Case {
+    Case::GuardedTick { pair: pair(rng) }
+}
+
+pub fn remedies_case(rng: &mut Rng) -> Case {
+    let pair = pair(rng);
+    let preferred = some_list(rng, &pair);
+    let fallback = some_list(rng, &pair);
+    Case::Remedies {
+        pair,
+        preferred,
+        fallback,
+    }
+}
+
+pub fn run_case(rng: &mut Rng) -> Case {
+    let pair = pair(rng);
+    let steps = some_steps(rng, &pair.table);
+    let answers = some_buffer(rng, steps.len());
+    Case::Run {
+        pair,
+        steps,
+        answers,
+    }
+}
+
+pub fn run_bytes_case(rng: &mut Rng) -> Case {
+    let pair = pair(rng);
+    let steps = some_step_bytes(rng, &pair.table);
+    let answers = some_buffer(rng, steps.len() / 2);
+    Case::RunBytes {
+        pair,
+        steps,
+        answers,
+    }
+}
+
+pub fn station_case(rng: &mut Rng) -> Case {
+    let pair = sound_pair(rng);
+    let mut input = some_table_image(rng, &pair.table, 25);
+    input.extend(some_marking_image(rng, &pair.marking, 15));
+    input.extend(some_step_bytes(rng, &pair.table));
+    if rng.chance(4) {
+        input.truncate(rng.below(input.len()));
+    }
+    Case::Station { input }
+}

@@ -1,0 +1,48 @@
+//! The duty engine as a reference model: the rules of document 01, written to
+//! be read and compared with, not to be fast.
+
+#![forbid(unsafe_code)]
+
+mod ask;
+mod bits;
+mod check;
+mod closure;
+mod decoded;
+mod effect;
+mod enabled;
+mod event_set;
+mod fresh;
+mod guarded;
+mod hold_up;
+mod image;
+mod judge;
+mod margin;
+mod process;
+mod refusal;
+mod remedies;
+mod station;
+mod time;
+mod trace;
+
+pub mod case;
+pub mod generate;
+pub mod rng;
+
+pub use ask::{report, request};
+pub use check::{check, CheckAnswer};
+pub use closure::closure;
+pub use decoded::{
+    Marking, MarkingAnswer, ReadMarking, ReadTable, Record, Relation, SetAnswer, Table,
+};
+pub use enabled::{enabled, EnabledAnswer};
+pub use event_set::{lowest, size};
+pub use fresh::fresh;
+pub use guarded::{guarded_tick, GuardedAnswer};
+pub use hold_up::{hold_up, HoldUpAnswer};
+pub use image::{read_marking, read_table, write_marking};
+pub use judge::{judge_marking, judge_table};
+pub use margin::{margin, MarginAnswer};
+pub use remedies::{remedies, RemedyAnswer};
+pub use station::station;
+pub use time::{due, plain_tick};
+pub use trace::{run, run_bytes, Step};
