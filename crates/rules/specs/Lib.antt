@@ -18,7 +18,9 @@ pub mod Guard
 pub mod Remedy
 pub mod Trace
 pub mod Station
--- Document 01's worked cases, computed.
+-- What follows from them.
 pub mod Laws
+pub mod Demand3
+-- Document 01's worked cases, computed.
 pub mod Shop
 pub mod Cases

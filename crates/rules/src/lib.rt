@@ -1,4 +1,7 @@
 // The decoded types, and the answers of the public calls. What they mean stands in specs/.
+ghost use mathlib.Core.Path.{_≡_};
+ghost use Rattle.rules.specs.Holds.{emptyMarking};
+ghost use Rattle.rules.specs.Image.{fresh as freshAnswer};
 
 // A condition, response, inclusion, exclusion or milestone: left first, right second.
 pub struct Relation {
@@ -97,4 +100,69 @@ pub struct RemedyAnswer {
     pub number: u8,
     pub fallback: bool,
     pub length: usize,
+}
+
+impl Marking {
+    // Ages, times and deadlines are at most this.
+    pub const AGE_LIMIT: u32 = 1_000_000_000;
+
+    // No events, and every place empty.
+    pub fn empty() -> Marking
+        ensures { λ r. ⌜ r ≡ emptyMarking ⌝ }
+    {
+        let nothing = Record {
+            age: 0,
+            deadline: 0,
+            happened: false,
+            included: false,
+            pending: false,
+            bounded: false,
+        };
+        Marking {
+            records: [nothing; 64],
+            events: 0,
+        }
+    }
+
+    // A fresh marking: not happened, included, not pending; 0 or above 64 events gives 3.
+    pub fn fresh(events: usize) -> MarkingAnswer
+        ensures { λ r. ⌜ r ≡ freshAnswer events ⌝ }
+    {
+        if events < 1 {
+            return MarkingAnswer::refused(3);
+        }
+        if 64 < events {
+            return MarkingAnswer::refused(3);
+        }
+        let ready = Record {
+            age: 0,
+            deadline: 0,
+            happened: false,
+            included: true,
+            pending: false,
+            bounded: false,
+        };
+        let mut records = Marking::empty().records;
+        let mut i = 0;
+        while i < events {
+            records[i] = ready;
+            i += 1;
+        }
+        MarkingAnswer {
+            number: 0,
+            marking: Marking { records, events },
+        }
+    }
+}
+
+impl MarkingAnswer {
+    // A refusal where no marking was handed in: every other part zero.
+    pub fn refused(number: u8) -> MarkingAnswer
+        ensures { λ r. ⌜ r ≡ record { number = number; marking = emptyMarking } ⌝ }
+    {
+        MarkingAnswer {
+            number,
+            marking: Marking::empty(),
+        }
+    }
 }

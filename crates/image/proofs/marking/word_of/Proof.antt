@@ -1,0 +1,106 @@
+-- `image::marking::word_of` meets its contract. A record that is judged 'done' has its numbers in 30 bits, so the whole fits 64, and each
+-- number on the way is no larger. Assumes nothing.
+use mathlib.Core.Path.{_≡_, refl}
+use mathlib.Core.Bool.{Bool, true, false}
+use Prim.Native.Nat.{_<_, _^_, _+_, _*_}
+use native.Mathlib.Omega.{arith}
+use borrow.Author.Needs.{needs}
+use mir.Val.{boolByte}
+use Rattle.rules.specs.declared.Record.{Record}
+use Rattle.rules.specs.Fields.{bit}
+use Rattle.rules.specs.Judge.{recordNumber}
+use Rattle.image.specs.Laws.Words.{bit-lt, room}
+use Rattle.image.proofs.marking.word_of.Statement.{statement}
+use Rattle.image.proofs.marking.word_of.Tie as tie
+
+-- a flag as the machine has it
+flag : (b : Bool) → boolByte b ≡ bit b
+flag true = refl
+flag false = refl
+
+flag-lt : (b : Bool) → boolByte b < 2
+flag-lt b = rw (flag b) (bit-lt b)
+
+whole : (r : Record) → recordNumber r ≡ 0
+    → ((((boolByte (r .happened) * 1073741824 + r .age) * 2 + boolByte (r .included)) * 2 + boolByte (r .pending)) * 2
+    + boolByte (r .bounded))
+    * 1073741824
+    + r .deadline
+    < 2 ^ 64
+whole r h =
+    omega (arith, room r h, flag-lt (r .happened), flag-lt (r .included), flag-lt (r .pending), flag-lt (r .bounded))
+
+cast-w : tie.Need-cast-w
+cast-w c = search needs
+
+mul-w : tie.Need-mul-w
+mul-w c = omega (arith, whole (c .before .args .r) (c .before .pre))
+
+cast-w-2 : tie.Need-cast-w-2
+cast-w-2 c = search needs
+
+add-w : tie.Need-add-w
+add-w c = omega (arith, whole (c .before .before .args .r) (c .before .before .pre))
+
+mul-w-2 : tie.Need-mul-w-2
+mul-w-2 c = omega (arith, whole (c .before .before .args .r) (c .before .before .pre))
+
+cast-w-3 : tie.Need-cast-w-3
+cast-w-3 c = search needs
+
+add-w-2 : tie.Need-add-w-2
+add-w-2 c = omega (arith, whole (c .before .before .before .args .r) (c .before .before .before .pre))
+
+mul-w-3 : tie.Need-mul-w-3
+mul-w-3 c = omega (arith, whole (c .before .before .before .args .r) (c .before .before .before .pre))
+
+cast-w-4 : tie.Need-cast-w-4
+cast-w-4 c = search needs
+
+add-w-3 : tie.Need-add-w-3
+add-w-3 c = omega (arith, whole (c .before .before .before .before .args .r) (c .before .before .before .before .pre))
+
+mul-w-4 : tie.Need-mul-w-4
+mul-w-4 c = omega (arith, whole (c .before .before .before .before .args .r) (c .before .before .before .before .pre))
+
+cast-w-5 : tie.Need-cast-w-5
+cast-w-5 c = search needs
+
+add-w-4 : tie.Need-add-w-4
+add-w-4 c = omega (arith, whole (c .before .before .before .before .before .args .r) (c .before .before .before .before .before .pre))
+
+mul-result : tie.Need-mul-result
+mul-result c = omega (arith, whole (c .before .before .before .before .before .args .r) (c .before .before .before .before .before .pre))
+
+cast-result : tie.Need-cast-result
+cast-result c = search needs
+
+add-result : tie.Need-add-result
+add-result c = record { fits = whole (c .before .before .before .before .before .before .args .r) (c .before .before .before .before .before .before .pre) }
+
+returns : tie.Need-returns
+returns c =
+    let r = c .before .before .before .before .before .before .args .r in
+    rw (flag (r .happened), flag (r .included), flag (r .pending), flag (r .bounded))
+
+pub word-of-spec : {M : Type 1} → statement M
+word-of-spec =
+    tie.close
+    (tie.spec
+    cast-w
+    mul-w
+    cast-w-2
+    add-w
+    mul-w-2
+    cast-w-3
+    add-w-2
+    mul-w-3
+    cast-w-4
+    add-w-3
+    mul-w-4
+    cast-w-5
+    add-w-4
+    mul-result
+    cast-result
+    add-result
+    returns)

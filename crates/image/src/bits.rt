@@ -1,0 +1,32 @@
+// Whole bytes as one number, high byte first, in and out. Fields are then quotients and remainders of the number.
+ghost use mathlib.Core.Path.{_≡_};
+ghost use mathlib.Core.List.{_++_};
+ghost use Prim.Native.Nat.{_+_, _*_, _≤_};
+ghost use lib.ListN.{length, take, drop};
+ghost use Rattle.rules.specs.Fields.{field, bytesOf};
+
+// The number in `count` bytes from byte `at` on.
+pub fn word(image: &[u8], at: usize, count: usize) -> u64
+    requires { ⌜ (at + count ≤ length (now image)) × (count ≤ 8) ⌝ }
+    ensures { λ r. ⌜ r ≡ field (now (image .entry)) (8 * at) (8 * count) ⌝ }
+{
+    let mut v: u64 = 0;
+    let mut i = 0;
+    while i < count {
+        v = v * 256 + image[at + i] as u64;
+        i += 1;
+    }
+    v
+}
+
+// The 8 bytes from byte `at` on become the number's.
+pub fn put_word(buffer: &mut [u8], at: usize, v: u64)
+    requires { ⌜ at + 8 ≤ length (now buffer) ⌝ }
+    ensures { λ _. ⌜ now (buffer .exit) ≡ take at (now (buffer .entry)) ++ bytesOf 8 v ++ drop (at + 8) (now (buffer .entry)) ⌝ }
+{
+    let mut i = 0;
+    while i < 8 {
+        buffer[at + i] = ((v >> (8 * (7 - i))) % 256) as u8;
+        i += 1;
+    }
+}

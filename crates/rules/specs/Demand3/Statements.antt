@@ -1,0 +1,84 @@
+-- Demand 3. Over every table and marking that the check accepts, and every list of steps from there: requests, reports, plain ticks and guarded
+-- ticks, granted or refused, with any event numbers and of any kind. Each statement is a reading of one invariant. Assumes nothing.
+use mathlib.Core.Path.{_≡_, refl, subst}
+use mathlib.Core.Bool.{Bool, true, false, not}
+use mathlib.Core.List.{List, _++_}
+use Prim.Native.Nat.{ℕ, _<_}
+use native.Mathlib.Omega.{arith}
+use lib.Dec.{ltb}
+use borrow.Author.Tests.{ltb-true, lt-ltb}
+use Rattle.rules.specs.declared.Table.{Table}
+use Rattle.rules.specs.declared.Marking.{Marking}
+use Rattle.rules.specs.declared.Step.{Step}
+use Rattle.rules.specs.declared.CheckAnswer.the-variants.{Accepts}
+use Rattle.rules.specs.Numbers.{_if_, _else_}
+use Rattle.rules.specs.EventSet.{has}
+use Rattle.rules.specs.Holds.{isControllable}
+use Rattle.rules.specs.Enabled.{isEnabled}
+use Rattle.rules.specs.Ask.{reportNumber, report}
+use Rattle.rules.specs.Closure.{closure}
+use Rattle.rules.specs.Check.{check}
+use Rattle.rules.specs.Guard.{guardedTick}
+use Rattle.rules.specs.Trace.{endOf}
+use Rattle.rules.specs.Laws.Judge.{good}
+use Rattle.rules.specs.Demand3.Invariant.{Static, Invariant, always-reported}
+use Rattle.rules.specs.Demand3.Accepts.{closure-static, closure-invariant, closure-least, suffices, check-parts, check-accepts}
+use Rattle.rules.specs.Demand3.History.{Act, after, passesIn, historyOf, after-history}
+use Rattle.rules.specs.Demand3.Deadline.{Duty, Settles, Met, Calm, calm-rest, kept, history-calm, deadline-met, settled-or-stays}
+use Rattle.rules.specs.Demand3.Promise.{Promise, promised}
+
+module _ (t : Table) (m : Marking) (accepted : check t m ≡ Accepts) where
+  -- one set, and one invariant
+  static : Static t (closure t m)
+  static = let p = check-parts t m accepted in closure-static t m (p .0) (p .1)
+
+  start : Invariant t (closure t m) m
+  start = let p = check-parts t m accepted in closure-invariant t m (p .0) (p .1)
+
+  invariant : (steps : List Step) → Invariant t (closure t m) (endOf t m steps)
+  invariant steps = subst (Invariant t (closure t m)) (after-history t m steps) (kept t (closure t m) static m start (historyOf t m steps))
+
+  -- 1. The check still accepts after any steps ..
+  pub still-accepts : (steps : List Step) → check t (endOf t m steps) ≡ Accepts
+  still-accepts steps =
+      let v = invariant steps in
+      check-accepts t (endOf t m steps) (v .judged-done) (suffices t (closure t m) static (endOf t m steps) v)
+
+  -- .. and the next guarded tick is not refused.
+  pub never-refused : (steps : List Step) → guardedTick t (endOf t m steps) .number ≡ 0
+  never-refused steps = promised t (endOf t m steps) (still-accepts steps) .not-refused
+
+  -- 2. That guarded tick keeps its promise: nothing when nothing is due, else only causable members of the closure, each enabled when it is
+  -- executed, each at most once, and no event due when time then passes.
+  pub guarded-tick : (steps : List Step) → Promise t (endOf t m steps)
+  guarded-tick steps = promised t (endOf t m steps) (still-accepts steps)
+
+  -- 3. An included event that is to be done within d ticks, at any point of the history, is executed, given a new deadline or excluded before the
+  -- (d + 1)th pass of time from then.
+  pub deadline-kept : (steps : List Step) (before rest : List Act) → historyOf t m steps ≡ before ++ rest
+      → (x d : ℕ) → x < t .events → Duty (after t m before) x d → d < passesIn rest → Met t (Settles t x) (after t m before) d rest
+  deadline-kept steps before rest split x d b duty l =
+      let calm = calm-rest t m before rest (subst (Calm t m) split (history-calm t (closure t m) static m start steps)) in
+      let same = good t (after t m before) (kept t (closure t m) static m start before .judged-done) .marking-good .same-events in
+      deadline-met t x b (Settles t x) (settled-or-stays t x b) calm same d duty l
+
+  -- 4. Beyond the demand. A report of an uncontrollable event is always granted, so no report is answered 10 ..
+  pub report-granted : (steps : List Step) (e : ℕ) → e < t .events → isControllable t e ≡ false → report t (endOf t m steps) e .number ≡ 0
+  unfolding report reportNumber
+  report-granted steps e b h =
+      let v = invariant steps in
+      rw (v .judged-done, lt-ltb e (t .events) b, h, always-reported t (closure t m) static (endOf t m steps) v e b h)
+
+  pub report-never-10 : (steps : List Step) (e : ℕ) → report t (endOf t m steps) e .number ≡ 10 → ⊥
+  unfolding report reportNumber
+  report-never-10 steps e h = go (ltb e (t .events)) (isControllable t e) refl refl (rw (invariant steps .judged-done) at h)
+    where
+      go : (there own : Bool) → ltb e (t .events) ≡ there → isControllable t e ≡ own
+          → 8 if not there else 9 if own else 10 if not (isEnabled t (endOf t m steps) e) ≡ 10 → ⊥
+      go false own p q n = omega (arith, n)
+      go true true p q n = omega (arith, n)
+      go true false p q n = omega (arith, h, report-granted steps e (ltb-true e (t .events) p) q)
+
+  -- .. and the closure never grows, whatever is executed and whenever time passes.
+  pub closure-never-grows : (acts : List Act) (x : ℕ) → has (closure t (after t m acts)) x ≡ true → has (closure t m) x ≡ true
+  closure-never-grows acts = closure-least t (closure t m) static (after t m acts) (kept t (closure t m) static m start acts)
