@@ -7,6 +7,11 @@ pub mod Words
 pub mod Judge
 pub mod Fit
 pub mod Fields
+pub mod Told
+pub mod Time
+pub mod Ask
+pub mod Margin
+pub mod HoldUp
 pub mod Widened
 pub mod Closure
 pub mod HoldsBack

@@ -1,0 +1,58 @@
+-- The promise of each public call leaves one answer: two answers to the same arguments that both meet it are equal. It is stated about the
+-- contract itself, as the check reads it. Assumes nothing.
+use mathlib.Core.Path.{_≡_, sym, _∙_}
+use mathlib.Core.List.{List}
+use contract.Lifetimes.{Lfts}
+use denote.Triple.Clauses.{AtExit}
+use borrow.Fn.Kinds.{PK, RK, Out, Dens, resT, endedOf}
+use Rattle.engine.proofs.size.Kinds as size-kinds
+use Rattle.engine.proofs.size.Reads as size-reads
+use Rattle.engine.proofs.lowest.Kinds as lowest-kinds
+use Rattle.engine.proofs.lowest.Reads as lowest-reads
+use Rattle.engine.proofs.enabled.Kinds as enabled-kinds
+use Rattle.engine.proofs.enabled.Reads as enabled-reads
+use Rattle.engine.proofs.due.Kinds as due-kinds
+use Rattle.engine.proofs.due.Reads as due-reads
+use Rattle.engine.proofs.request.Kinds as request-kinds
+use Rattle.engine.proofs.request.Reads as request-reads
+use Rattle.engine.proofs.report.Kinds as report-kinds
+use Rattle.engine.proofs.report.Reads as report-reads
+use Rattle.engine.proofs.plain_tick.Kinds as plain-tick-kinds
+use Rattle.engine.proofs.plain_tick.Reads as plain-tick-reads
+use Rattle.engine.proofs.margin.Kinds as margin-kinds
+use Rattle.engine.proofs.margin.Reads as margin-reads
+use Rattle.engine.proofs.hold_up.Kinds as hold-up-kinds
+use Rattle.engine.proofs.hold_up.Reads as hold-up-reads
+
+-- any two answers that meet the promise, of the same arguments, are one
+abbrev pub Determined : (ps : List (PK 0)) (r : RK 0) → Out 0 ps r → Type 0
+Determined ps r Promise =
+    (κs : Lfts 0) (arguments : Dens κs ps) (one other : resT r κs .Denot) (s s′ : AtExit (endedOf 0 ps r) κs)
+    → Promise κs arguments one s → Promise κs arguments other s′ → one ≡ other
+
+pub size-determined : Determined size-kinds.ps size-kinds.r size-reads.Post
+size-determined κs a x y s s′ p q = p ∙ sym q
+
+pub lowest-determined : Determined lowest-kinds.ps lowest-kinds.r lowest-reads.Post
+lowest-determined κs a x y s s′ p q = p ∙ sym q
+
+pub enabled-determined : Determined enabled-kinds.ps enabled-kinds.r enabled-reads.Post
+enabled-determined κs a x y s s′ p q = p ∙ sym q
+
+pub due-determined : Determined due-kinds.ps due-kinds.r due-reads.Post
+due-determined κs a x y s s′ p q = p ∙ sym q
+
+pub request-determined : Determined request-kinds.ps request-kinds.r request-reads.Post
+request-determined κs a x y s s′ p q = p ∙ sym q
+
+pub report-determined : Determined report-kinds.ps report-kinds.r report-reads.Post
+report-determined κs a x y s s′ p q = p ∙ sym q
+
+pub plain-tick-determined : Determined plain-tick-kinds.ps plain-tick-kinds.r plain-tick-reads.Post
+plain-tick-determined κs a x y s s′ p q = p ∙ sym q
+
+pub margin-determined : Determined margin-kinds.ps margin-kinds.r margin-reads.Post
+margin-determined κs a x y s s′ p q = p ∙ sym q
+
+pub hold-up-determined : Determined hold-up-kinds.ps hold-up-kinds.r hold-up-reads.Post
+hold-up-determined κs a x y s s′ p q = p ∙ sym q

@@ -1,0 +1,96 @@
+// Due events, and the passing of one tick.
+use rules::Marking;
+use rules::Record;
+ghost use mathlib.Core.Path.{_≡_};
+ghost use mathlib.Core.Bool.{cond};
+ghost use Prim.Native.Nat.{_+_, _-_, _≤_, min};
+ghost use Rattle.rules.specs.Holds.{limit};
+ghost use Rattle.rules.specs.Time.{isDue, dueSet, later, time};
+
+fn is_due(r: Record) -> bool
+    ensures { λ b. ⌜ b ≡ isDue r ⌝ }
+{
+    if r.included {
+        if r.pending {
+            if r.bounded {
+                return r.deadline == 0;
+            }
+        }
+    }
+    false
+}
+
+// The due events.
+pub fn due_set(m: Marking) -> u64
+    requires { ⌜ m .events ≤ 64 ⌝ }
+    ensures { λ r. ⌜ r ≡ dueSet m ⌝ }
+{
+    let n = m.events;
+    let mut set: u64 = 0;
+    let mut i = 0;
+    while i < n {
+        let r = m.records[i];
+        if is_due(r) {
+            set += 1 << i;
+        }
+        i += 1;
+    }
+    set
+}
+
+// An age one tick later, held at the limit.
+fn older(happened: bool, age: u32) -> u32
+    ensures { λ r. ⌜ r ≡ cond happened (min (age + 1) limit) age ⌝ }
+{
+    if happened {
+        if age < Marking::AGE_LIMIT {
+            return age + 1;
+        }
+        return Marking::AGE_LIMIT;
+    }
+    age
+}
+
+// A deadline one tick later, not below 0.
+fn nearer(bounded: bool, deadline: u32) -> u32
+    ensures { λ r. ⌜ r ≡ cond bounded (deadline - 1) deadline ⌝ }
+{
+    if bounded {
+        if 0 < deadline {
+            return deadline - 1;
+        }
+        return 0;
+    }
+    deadline
+}
+
+// A record one tick later.
+fn aged(r: Record) -> Record
+    ensures { λ q. ⌜ q ≡ later r ⌝ }
+{
+    Record {
+        age: older(r.happened, r.age),
+        deadline: nearer(r.bounded, r.deadline),
+        happened: r.happened,
+        included: r.included,
+        pending: r.pending,
+        bounded: r.bounded,
+    }
+}
+
+// One tick.
+pub fn time(m: Marking) -> Marking
+    requires { ⌜ m .events ≤ 64 ⌝ }
+    ensures { λ r. ⌜ r ≡ time m ⌝ }
+{
+    let n = m.events;
+    let mut records = m.records;
+    let mut i = 0;
+    while i < n {
+        let r = records[i];
+        let q = aged(r);
+        records[i] = q;
+        i += 1;
+    }
+    Marking { records, events: n }
+}

@@ -1,0 +1,95 @@
+-- Request and report are one ask, of an event of the class that is wanted; what its number is, step by step; what is granted was enabled, and
+-- an existing event of the class that is not enabled is refused with 10. Assumes nothing.
+use mathlib.Core.Path.{_≡_, refl, _∙_, sym}
+use mathlib.Core.Bool.{Bool, true, false, not, cond, Bool·beq}
+use Prim.Native.Nat.{ℕ, _<_}
+use borrow.Author.Tests.{lt-ltb}
+use Rattle.rules.specs.declared.Table.{Table}
+use Rattle.rules.specs.declared.Marking.{Marking}
+use Rattle.rules.specs.declared.MarkingAnswer.{MarkingAnswer}
+use Rattle.rules.specs.Numbers.{_if_, _else_, done}
+use Rattle.rules.specs.Holds.{isControllable}
+use Rattle.rules.specs.Judge.{judged, eventNumber}
+use Rattle.rules.specs.Enabled.{isEnabled}
+use Rattle.rules.specs.Effect.{effect}
+use Rattle.rules.specs.Ask.{requestNumber, reportNumber, request, report}
+use Rattle.rules.specs.Laws.Tests.{not-false}
+use Rattle.rules.specs.Laws.Numbers.{if-done, both-done, else-done, else-refused, else-assoc}
+
+-- an event is of the other class: a request wants a controllable one, a report an uncontrollable
+abbrev pub other : Bool → Table → ℕ → Bool
+other wanted t e = cond wanted (not (isControllable t e)) (isControllable t e)
+
+unfoldable pub askNumber : Bool → Table → Marking → ℕ → ℕ
+askNumber wanted t m e = eventNumber t e else 9 if other wanted t e else 10 if not (isEnabled t m e)
+
+unfoldable pub asked : Bool → Table → Marking → ℕ → MarkingAnswer
+asked wanted t m e =
+    let number = judged t m else askNumber wanted t m e in
+    record { number = number; marking = done number (effect t m e) m }
+
+pub asked-request : (t : Table) (m : Marking) (e : ℕ) → asked true t m e ≡ request t m e
+unfolding asked askNumber request requestNumber
+asked-request t m e = refl
+
+pub asked-report : (t : Table) (m : Marking) (e : ℕ) → asked false t m e ≡ report t m e
+unfolding asked askNumber report reportNumber
+asked-report t m e = refl
+
+other-same : (controllable wanted : Bool) → cond wanted (not controllable) controllable ≡ not (Bool·beq controllable wanted)
+other-same true true = refl
+other-same true false = refl
+other-same false true = refl
+other-same false false = refl
+
+-- the judge and the event's number come first, then the class, then whether the event is enabled
+module _ (wanted : Bool) (t : Table) (m : Marking) (e : ℕ) where
+  joined : (judged t m else askNumber wanted t m e)
+      ≡ ((judged t m else eventNumber t e) else (9 if other wanted t e else 10 if not (isEnabled t m e)))
+  unfolding askNumber
+  joined = sym (else-assoc (judged t m) (eventNumber t e) (9 if other wanted t e else 10 if not (isEnabled t m e)))
+
+  ask-judged : (judged t m else eventNumber t e) ≡ 0 → (judged t m else askNumber wanted t m e) ≡ (9 if other wanted t e else 10 if not (isEnabled t m e))
+  ask-judged h = joined ∙ else-done _ h
+
+  pub ask-granted : (judged t m else eventNumber t e) ≡ 0 → Bool·beq (isControllable t e) wanted ≡ true → isEnabled t m e ≡ true
+      → 0 ≡ (judged t m else askNumber wanted t m e)
+  ask-granted h k f = rw (ask-judged h, other-same (isControllable t e) wanted, k, f)
+
+  pub ask-held : (judged t m else eventNumber t e) ≡ 0 → Bool·beq (isControllable t e) wanted ≡ true → isEnabled t m e ≡ false
+      → 10 ≡ (judged t m else askNumber wanted t m e)
+  ask-held h k f = rw (ask-judged h, other-same (isControllable t e) wanted, k, f)
+
+  pub ask-other : (judged t m else eventNumber t e) ≡ 0 → Bool·beq (isControllable t e) wanted ≡ false
+      → 9 ≡ (judged t m else askNumber wanted t m e)
+  ask-other h k = rw (ask-judged h, other-same (isControllable t e) wanted, k)
+
+  pub ask-refused : {n : ℕ} → n ≡ (judged t m else eventNumber t e) → (n ≡ 0 → ⊥) → n ≡ (judged t m else askNumber wanted t m e)
+  ask-refused p h = p ∙ sym (joined ∙ else-refused _ (λ z. h (p ∙ z)))
+
+-- what is granted was enabled
+pub asked-granted : (wanted : Bool) (t : Table) (m : Marking) (e : ℕ) → asked wanted t m e .number ≡ 0 → isEnabled t m e ≡ true
+unfolding asked askNumber
+asked-granted wanted t m e h =
+    let p = both-done (judged t m) _ h in
+    let q = both-done (eventNumber t e) _ (p .1) in
+    let r = both-done (9 if other wanted t e) _ (q .1) in
+    not-false (isEnabled t m e) (if-done 9 (not (isEnabled t m e)) (r .1))
+
+pub request-granted : (t : Table) (m : Marking) (e : ℕ) → request t m e .number ≡ 0 → isEnabled t m e ≡ true
+request-granted t m e h = asked-granted true t m e (rw asked-request h)
+
+pub report-granted : (t : Table) (m : Marking) (e : ℕ) → report t m e .number ≡ 0 → isEnabled t m e ≡ true
+report-granted t m e h = asked-granted false t m e (rw asked-report h)
+
+-- an existing event of the right class that is not enabled is refused with 10
+module _ (t : Table) (m : Marking) (e : ℕ) (fine : judged t m ≡ 0) (exists : e < t .events) (held : isEnabled t m e ≡ false) where
+  asked-held : (wanted : Bool) → other wanted t e ≡ false → asked wanted t m e .number ≡ 10
+  unfolding asked askNumber
+  asked-held wanted k = rw (fine, lt-ltb e (t .events) exists, k, held)
+
+  pub request-held : isControllable t e ≡ true → request t m e .number ≡ 10
+  request-held k = rw (← asked-request t m e) (asked-held true (rw k))
+
+  pub report-held : isControllable t e ≡ false → report t m e .number ≡ 10
+  report-held k = rw (← asked-report t m e) (asked-held false k)
