@@ -23,6 +23,12 @@ use Rattle.engine.proofs.margin.Kinds as margin-kinds
 use Rattle.engine.proofs.margin.Reads as margin-reads
 use Rattle.engine.proofs.hold_up.Kinds as hold-up-kinds
 use Rattle.engine.proofs.hold_up.Reads as hold-up-reads
+use Rattle.engine.proofs.closure.Kinds as closure-kinds
+use Rattle.engine.proofs.closure.Reads as closure-reads
+use Rattle.engine.proofs.check.Kinds as check-kinds
+use Rattle.engine.proofs.check.Reads as check-reads
+use Rattle.engine.proofs.guarded_tick.Kinds as guarded-tick-kinds
+use Rattle.engine.proofs.guarded_tick.Reads as guarded-tick-reads
 
 -- any two answers that meet the promise, of the same arguments, are one
 abbrev pub Determined : (ps : List (PK 0)) (r : RK 0) → Out 0 ps r → Type 0
@@ -56,3 +62,12 @@ margin-determined κs a x y s s′ p q = p ∙ sym q
 
 pub hold-up-determined : Determined hold-up-kinds.ps hold-up-kinds.r hold-up-reads.Post
 hold-up-determined κs a x y s s′ p q = p ∙ sym q
+
+pub closure-determined : Determined closure-kinds.ps closure-kinds.r closure-reads.Post
+closure-determined κs a x y s s′ p q = p ∙ sym q
+
+pub check-determined : Determined check-kinds.ps check-kinds.r check-reads.Post
+check-determined κs a x y s s′ p q = p ∙ sym q
+
+pub guarded-tick-determined : Determined guarded-tick-kinds.ps guarded-tick-kinds.r guarded-tick-reads.Post
+guarded-tick-determined κs a x y s s′ p q = p ∙ sym q

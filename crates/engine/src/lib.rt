@@ -2,14 +2,21 @@
 // crate `rules`, whole.
 mod ask;
 mod blocking;
+mod collect;
 mod effect;
 mod enabling;
 mod event_set;
+mod guard;
+mod inhibition;
 mod judge;
+mod reasons;
 mod time;
 mod waiting;
+mod word;
 
+use rules::CheckAnswer;
 use rules::EnabledAnswer;
+use rules::GuardedAnswer;
 use rules::HoldUpAnswer;
 use rules::MarginAnswer;
 use rules::Marking;
@@ -23,6 +30,9 @@ ghost use Rattle.rules.specs.Time.{dueAnswer, plainTick};
 ghost use Rattle.rules.specs.Ask.{request, report};
 ghost use Rattle.rules.specs.Margin.{margin};
 ghost use Rattle.rules.specs.HoldUp.{holdUp};
+ghost use Rattle.rules.specs.Closure.{closureAnswer};
+ghost use Rattle.rules.specs.Check.{check};
+ghost use Rattle.rules.specs.Guard.{guardedTick};
 
 // How many events a set holds.
 pub fn size(set: u64) -> u32
@@ -126,4 +136,40 @@ pub fn hold_up(t: Table, m: Marking, event: usize) -> HoldUpAnswer
         return enabling::holding(t, m, event);
     }
     HoldUpAnswer::Refused(number)
+}
+
+// The closure, also where the check rejects.
+pub fn closure(t: Table, m: Marking) -> SetAnswer
+    ensures { λ r. ⌜ r ≡ closureAnswer t m ⌝ }
+{
+    let number = judge::judge(t, m);
+    if number == 0 {
+        let rows = inhibition::inhibitors(t, inhibition::EVERY, inhibition::EVERY);
+        let set = reasons::closure(t, m, rows);
+        return SetAnswer { number: 0, set };
+    }
+    SetAnswer { number, set: 0 }
+}
+
+// The static check.
+pub fn check(t: Table, m: Marking) -> CheckAnswer
+    ensures { λ r. ⌜ r ≡ check t m ⌝ }
+{
+    let number = judge::judge(t, m);
+    if number == 0 {
+        return reasons::verdict(t, m);
+    }
+    CheckAnswer::Refused(number)
+}
+
+// The needed events are executed in order and one tick passes, unless the check rejects.
+pub fn guarded_tick(t: Table, m: Marking) -> GuardedAnswer
+    ensures { λ r. ⌜ r ≡ guardedTick t m ⌝ }
+{
+    let checked = check(t, m);
+    match checked {
+        CheckAnswer::Refused(number) => guard::nothing(number, 0, 0, m),
+        CheckAnswer::Accepts => guard::guarded(t, m),
+        CheckAnswer::Rejects(reason, place) => guard::nothing(12, reason, place, m),
+    }
 }

@@ -166,6 +166,8 @@ mistakes =
     ∷ after (shop.leak ∷ shop.guarded ∷ shop.guarded ∷ shop.leak ∷ []) (state 1) (is (shop.pendingWithin true 3))
     -- Executing a needed event that an earlier one has excluded
     ∷ asks rivals bothDue (causedAlong (shop.guarded ∷ [])) (events (0 ∷ []))
+    -- Judging the needed set later than at the start: 2 is executed though 1, which needed it, has been excluded
+    ∷ asks stillNeeded bothDueOneIdle (causedAlong (shop.guarded ∷ [])) (events (0 ∷ 2 ∷ []))
     ∷ []
   where
     selfResponse : Table
@@ -176,6 +178,12 @@ mistakes =
 
     bothDue : Marking
     bothDue = shop.marking (shop.pendingWithin true 0 ∷ shop.pendingWithin true 0 ∷ [])
+
+    stillNeeded : Table
+    stillNeeded = shop.table 3 7 7 (shop.excludes 0 1 ∷ shop.condition 1 2 0 ∷ [])
+
+    bothDueOneIdle : Marking
+    bothDueOneIdle = shop.marking (shop.pendingWithin true 0 ∷ shop.pendingWithin true 0 ∷ shop.idle ∷ [])
 
 unfoldable pub cases : List Case
 cases = worked ++ mistakes

@@ -18,3 +18,5 @@ pub mod HoldsBack
 pub mod Needed
 pub mod Order
 pub mod Taken
+pub mod Turns
+pub mod Kept

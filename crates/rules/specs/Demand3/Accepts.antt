@@ -110,8 +110,11 @@ module _ (t : Table) (m : Marking) (good-t : GoodTable t) (X : ℕ) (p : Passed 
             (join (join r h) (some-at (milestoned t X (relationOf t k .right)) (t .count) j l (join (join s i) (eq-eqb _ _ q))))
             (p .r5 k b);
         x7 = λ k b i h l. eqb-true _ _ (affirmed (eqb (relationOf t k .left) (relationOf t k .right)) (λ q. clash (join (join (join i h) l) (ap not q)) (p .r6 k b)));
-        x8-kept = λ k b h. reported (relationOf t k .right) k (good-t .relations-good k b .right-exists) b (or-left (isExclusion (relationOf t k) && eqb (relationOf t k .right) (relationOf t k .right)) _ (join h (eq-eqb (relationOf t k .right) _ refl)));
-        x8-free = λ k b h. reported (relationOf t k .left) k (good-t .relations-good k b .left-exists) b (or-right (isExclusion (relationOf t k) && eqb (relationOf t k .right) (relationOf t k .left)) _ (join h (eq-eqb (relationOf t k .left) _ refl)));
+        x8-kept = λ k b h. let f = relationOf t k .right in
+            reported f k (good-t .relations-good k b .right-exists) b (or-left (isExclusion (relationOf t k) && eqb f f) _ (join h (eq-eqb f f refl)));
+        x8-free = λ k b h. let e = relationOf t k .left in
+            reported e k (good-t .relations-good k b .left-exists) b
+            (or-right (isExclusion (relationOf t k) && eqb (relationOf t k .right) e) _ (join h (eq-eqb e e refl)));
       }
 
 -- the facts of a set give no reason against any set within it

@@ -1,0 +1,27 @@
+-- Judged first, then the closure of the busy events. Assumes nothing.
+use mathlib.Core.Path.{_∙_, sym}
+use borrow.Author.Tests.{ne-eqb}
+use Rattle.rules.specs.Closure.{closureAnswer}
+use Rattle.rules.specs.Laws.Judge.{good}
+use Rattle.engine.proofs.closure.Statement.{statement}
+use Rattle.engine.proofs.closure.Tie as tie
+
+judge-requires : tie.Need-judge-requires
+judge-requires c κs = tt
+
+inhibitors-requires : tie.Need-inhibitors-requires
+inhibitors-requires c κs = good _ _ (sym (c .before .judge .ensures) ∙ c .if1 .taken) .table-good
+
+closure-requires : tie.Need-closure-requires
+closure-requires c κs = (good _ _ (sym (c .before .before .judge .ensures) ∙ c .before .if1 .taken), c .inhibitors .ensures)
+
+returns : tie.Need-returns
+unfolding closureAnswer
+returns c = rw (sym (c .before .before .before .judge .ensures) ∙ c .before .before .if1 .taken, c .closure .ensures)
+
+returns-2 : tie.Need-returns-2
+unfolding closureAnswer
+returns-2 c = rw (c .before .judge .ensures) (rw (ne-eqb _ 0 (λ e. c .if1 .left (c .before .judge .ensures ∙ e))))
+
+pub closure-spec : {M : Type 1} → statement M
+closure-spec = tie.close (tie.spec judge-requires inhibitors-requires closure-requires returns returns-2)

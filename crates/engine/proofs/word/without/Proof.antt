@@ -1,0 +1,10 @@
+-- The members of one word and the other turned over. Assumes nothing.
+use Rattle.engine.specs.Laws.Reasons.{has-without}
+use Rattle.engine.proofs.word.without.Statement.{statement}
+use Rattle.engine.proofs.word.without.Tie as tie
+
+returns : tie.Need-returns
+returns c = λ x. has-without (c .args .set) (c .args .other) x (c .fits .set .fits) (c .fits .other .fits)
+
+pub without-spec : {M : Type 1} → statement M
+without-spec = tie.close (tie.spec returns)

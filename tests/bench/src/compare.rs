@@ -1,0 +1,280 @@
+//! Questions go out, answers come back in the same order, and each is held
+//! against the second implementation's.
+
+use crate::calls::Call;
+use crate::wire;
+use second::case::Case;
+use second::rng::Rng;
+use std::collections::BTreeMap;
+use std::fmt;
+use std::io::Read;
+
+/// A call with its arguments and the answer that the second implementation gives.
+#[derive(Clone)]
+pub struct Question {
+    pub call: &'static Call,
+    pub payload: Vec<u8>,
+    pub expected: Vec<u8>,
+    /// 0 for done, else the refusal number.
+    pub number: u8,
+}
+
+impl Question {
+    pub fn new(call: &'static Call, case: &Case) -> Question {
+        let answer = case.answer();
+        Question {
+            call,
+            payload: wire::payload(case),
+            expected: wire::answer(case, &answer),
+            number: answer.number(),
+        }
+    }
+
+    pub fn frame(&self) -> Vec<u8> {
+        wire::frame(self.call.number, &self.payload)
+    }
+
+    pub fn answer_frame(&self) -> Vec<u8> {
+        wire::answer_frame(&self.expected)
+    }
+}
+
+/// The cases at the limits of each call.
+pub fn edge_questions(calls: Vec<&'static Call>) -> impl Iterator<Item = Question> {
+    calls.into_iter().flat_map(|call| {
+        let cases = (call.edges)().into_iter();
+        cases.map(move |case| Question::new(call, &case))
+    })
+}
+
+/// So many random cases, the calls in turn.
+pub fn random_questions(
+    calls: Vec<&'static Call>,
+    cases: usize,
+    seed: u64,
+) -> impl Iterator<Item = Question> {
+    let mut rng = Rng::new(seed);
+    (0..cases).map(move |turn| {
+        let call = calls[turn % calls.len()];
+        Question::new(call, &(call.case)(&mut rng))
+    })
+}
+
+#[derive(PartialEq, Eq, Debug)]
+pub enum Got {
+    Answer(Vec<u8>),
+    /// The output ended within the answer or before it.
+    Nothing,
+}
+
+/// The next answer of the program.
+pub fn next_answer(output: &mut impl Read) -> std::io::Result<Got> {
+    let mut length = [0; 2];
+    let mut answer = Vec::new();
+    let mut whole = fill(output, &mut length)?;
+    if whole {
+        answer.resize(usize::from(u16::from_le_bytes(length)), 0);
+        whole = fill(output, &mut answer)?;
+    }
+    Ok(if whole {
+        Got::Answer(answer)
+    } else {
+        Got::Nothing
+    })
+}
+
+/// Whether the output had enough to fill the buffer.
+fn fill(output: &mut impl Read, buffer: &mut [u8]) -> std::io::Result<bool> {
+    match output.read_exact(buffer) {
+        Ok(()) => Ok(true),
+        Err(error) if error.kind() == std::io::ErrorKind::UnexpectedEof => Ok(false),
+        Err(error) => Err(error),
+    }
+}
+
+#[derive(Debug)]
+pub struct Difference {
+    pub call: &'static str,
+    pub payload: Vec<u8>,
+    pub expected: Vec<u8>,
+    pub got: Got,
+}
+
+impl fmt::Display for Difference {
+    fn fmt(&self, out: &mut fmt::Formatter) -> fmt::Result {
+        writeln!(out, "difference in {}", self.call)?;
+        writeln!(out, "payload  {}", hex(&self.payload))?;
+        writeln!(out, "expected {}", hex(&self.expected))?;
+        match &self.got {
+            Got::Answer(answer) => {
+                writeln!(out, "got      {}", hex(answer))?;
+                write!(
+                    out,
+                    "first differs at byte {}",
+                    agreement(&self.expected, answer)
+                )
+            }
+            Got::Nothing => write!(out, "got      no answer: the output ends"),
+        }
+    }
+}
+
+fn hex(bytes: &[u8]) -> String {
+    bytes.iter().map(|byte| format!("{byte:02x}")).collect()
+}
+
+/// How many bytes are the same from the start.
+fn agreement(one: &[u8], other: &[u8]) -> usize {
+    one.iter().zip(other).take_while(|(a, b)| a == b).count()
+}
+
+/// The difference between the answer expected and the answer given, if any.
+pub fn difference(question: Question, got: Got) -> Option<Difference> {
+    if got == Got::Answer(question.expected.clone()) {
+        return None;
+    }
+    Some(Difference {
+        call: question.call.name,
+        payload: question.payload,
+        expected: question.expected,
+        got,
+    })
+}
+
+/// How many cases of each call there were, by their number for done or refusal.
+#[derive(Default)]
+pub struct Tally {
+    counts: BTreeMap<(u8, &'static str), BTreeMap<u8, usize>>,
+}
+
+impl Tally {
+    pub fn add(&mut self, question: &Question) {
+        let call = (question.call.number, question.call.name);
+        let counts = self.counts.entry(call).or_default();
+        *counts.entry(question.number).or_default() += 1;
+    }
+
+    pub fn cases(&self) -> usize {
+        self.counts.values().flat_map(BTreeMap::values).sum()
+    }
+}
+
+impl fmt::Display for Tally {
+    fn fmt(&self, out: &mut fmt::Formatter) -> fmt::Result {
+        for ((number, name), counts) in &self.counts {
+            let cases: usize = counts.values().sum();
+            write!(out, "{number:>2} {name:<14}{cases:>7} cases:")?;
+            for (refusal, times) in counts {
+                write!(out, "  {refusal} x {times}")?;
+            }
+            writeln!(out)?;
+        }
+        Ok(())
+    }
+}
+
+/// Compares each question's answer with the program's until one differs.
+/// Bytes after the last answer are a difference too.
+pub fn compare(
+    questions: impl Iterator<Item = Question>,
+    output: &mut impl Read,
+) -> std::io::Result<Result<Tally, Box<Difference>>> {
+    let mut tally = Tally::default();
+    for question in questions {
+        tally.add(&question);
+        let got = next_answer(output)?;
+        if let Some(difference) = difference(question, got) {
+            return Ok(Err(Box::new(difference)));
+        }
+    }
+    let mut rest = Vec::new();
+    output.read_to_end(&mut rest)?;
+    if rest.is_empty() {
+        return Ok(Ok(tally));
+    }
+    Ok(Err(Box::new(Difference {
+        call: "no call: the program wrote more than its answers",
+        payload: Vec::new(),
+        expected: Vec::new(),
+        got: Got::Answer(rest),
+    })))
+}
+
+#[cfg(test)]
+mod tests {
+    use super::*;
+    use crate::calls::{chosen, CALLS};
+
+    fn some_questions() -> Vec<Question> {
+        let calls = chosen("1-6").expect("six calls");
+        let edges = edge_questions(calls).step_by(97);
+        edges
+            .chain(random_questions(CALLS.iter().collect(), 84, 5))
+            .collect()
+    }
+
+    /// What a program writes that agrees with the second implementation.
+    fn output(questions: &[Question]) -> Vec<u8> {
+        questions.iter().flat_map(Question::answer_frame).collect()
+    }
+
+    fn verdict(questions: &[Question], output: &[u8]) -> Result<Tally, Box<Difference>> {
+        compare(questions.iter().cloned(), &mut &output[..]).expect("a slice is read without error")
+    }
+
+    #[test]
+    fn the_same_answers_agree() {
+        let questions = some_questions();
+        let tally = verdict(&questions, &output(&questions)).expect("no difference");
+        assert_eq!(tally.cases(), questions.len());
+    }
+
+    #[test]
+    fn a_corrupted_answer_is_reported() {
+        let questions = some_questions();
+        let right = output(&questions);
+        // Every place of the first answers, lengths too, and some of the later ones.
+        for place in (0..50).chain((50..right.len()).step_by(997)) {
+            let mut corrupted = right.clone();
+            corrupted[place] ^= 1;
+            assert!(
+                verdict(&questions, &corrupted).is_err(),
+                "byte {place} of {}",
+                right.len()
+            );
+        }
+    }
+
+    #[test]
+    fn a_short_and_a_long_output_are_reported() {
+        let questions = some_questions();
+        let right = output(&questions);
+        assert!(verdict(&questions, &right[..right.len() - 1]).is_err());
+        assert!(verdict(&questions, &[]).is_err());
+        assert!(verdict(&questions, &[right.as_slice(), &[0]].concat()).is_err());
+    }
+
+    #[test]
+    fn the_report_has_the_case_in_hex() {
+        let calls = chosen("4").expect("a call");
+        let question = random_questions(calls, 1, 3).next().expect("a case");
+        let mut wrong = question.expected.clone();
+        wrong[5] ^= 255;
+        let (payload, expected) = (hex(&question.payload), hex(&question.expected));
+        let report = difference(question, Got::Answer(wrong.clone())).expect("they differ");
+        let report = report.to_string();
+        for part in ["fresh", &payload, &expected, &hex(&wrong), "byte 5"] {
+            assert!(report.contains(part), "{part} in {report}");
+        }
+    }
+
+    #[test]
+    fn a_seed_repeats_its_cases() {
+        let payloads = |seed| -> Vec<Vec<u8>> {
+            let all = random_questions(CALLS.iter().collect(), 60, seed);
+            all.map(|question| question.payload).collect()
+        };
+        assert_eq!(payloads(4), payloads(4));
+        assert_ne!(payloads(4), payloads(5));
+    }
+}

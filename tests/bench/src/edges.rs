@@ -1,0 +1,552 @@
+//! The cases at the limits, the same in every run: each count, time and length
+//! at its limit and one past it, each spare bit, each field of a relation and of
+//! a record at each of its limits, faults where no call looks, and two faults at
+//! once, whose order decides the number.
+
+use second::case::Case;
+use second::generate::{marking_image, table_image};
+use second::{Marking, Record, Relation, Table};
+
+const LIMIT: u32 = 1_000_000_000;
+
+/// Times, ages and deadlines. The last four fit no image.
+const TIMES: [u32; 10] = [
+    0,
+    1,
+    LIMIT - 1,
+    LIMIT,
+    LIMIT + 1,
+    (1 << 30) - 1,
+    1 << 30,
+    (1 << 31) - 1,
+    1 << 31,
+    u32::MAX,
+];
+const TIMES_OF_AN_IMAGE: &[u32] = TIMES.split_at(6).0;
+
+const EVENT_COUNTS: [usize; 18] = [
+    0,
+    1,
+    2,
+    63,
+    64,
+    65,
+    66,
+    127,
+    128,
+    255,
+    256,
+    257,
+    1 << 16,
+    (1 << 32) + 1,
+    1 << 61,
+    (1 << 61) + 1,
+    1 << 63,
+    usize::MAX,
+];
+const EVENT_COUNTS_OF_AN_IMAGE: &[usize] = EVENT_COUNTS.split_at(8).0;
+
+const RELATION_COUNTS: [usize; 11] = [
+    0,
+    1,
+    2,
+    255,
+    256,
+    257,
+    511,
+    512,
+    (1 << 16) + 1,
+    (1 << 32) + 1,
+    usize::MAX,
+];
+const RELATION_COUNTS_OF_AN_IMAGE: &[usize] = RELATION_COUNTS.split_at(7).0;
+
+const SMALL: usize = 3;
+
+pub fn none() -> Vec<Case> {
+    Vec::new()
+}
+
+/// Relations of every kind in turn, all sound.
+fn sound_relation(number: usize, events: usize) -> Relation {
+    let events = events.clamp(1, 64);
+    let (kind, bounded, time) = [
+        (1, true, 0),
+        (2, true, LIMIT),
+        (2, false, 0),
+        (3, false, 0),
+        (4, false, 0),
+        (5, false, 0),
+        (1, true, LIMIT),
+        (2, true, 1),
+    ][number % 8];
+    Relation {
+        kind,
+        left: (number % events) as u8,
+        right: (number * 7 % events) as u8,
+        bounded,
+        time,
+    }
+}
+
+fn table(events: usize, count: usize) -> Table {
+    let mut table = Table::EMPTY;
+    table.events = events;
+    table.count = count;
+    table.controllable = 0x9249_2492_4924_9249;
+    table.causable = 0xDB6D_B6DB_6DB6_DB6D;
+    for (number, place) in table.relations.iter_mut().enumerate().take(count) {
+        *place = sound_relation(number, events);
+    }
+    table
+}
+
+/// Records of every sound shape in turn.
+fn sound_record(event: usize) -> Record {
+    Record {
+        age: [0, 0, 5, LIMIT][event % 4],
+        deadline: [0, LIMIT, 0, 0, 7][event % 5],
+        happened: event % 4 >= 2,
+        included: event % 3 != 0,
+        pending: event % 5 != 0,
+        bounded: event % 5 == 1 || event % 5 == 4,
+    }
+}
+
+fn marking(events: usize) -> Marking {
+    let mut marking = Marking::EMPTY;
+    marking.events = events;
+    for (event, place) in marking.records.iter_mut().enumerate().take(events) {
+        *place = sound_record(event);
+    }
+    marking
+}
+
+fn flipped(image: &[u8], bit: usize) -> Vec<u8> {
+    let mut image = image.to_vec();
+    image[bit / 8] ^= 0x80 >> (bit % 8);
+    image
+}
+
+fn resized(image: &[u8], length: usize) -> Vec<u8> {
+    let mut image = image.to_vec();
+    image.resize(length, 0);
+    image
+}
+
+/// Shorter and longer by one byte and by one unit, and as it is.
+fn lengths_about(length: usize, unit: usize) -> [usize; 5] {
+    [
+        length.saturating_sub(unit),
+        length.saturating_sub(1),
+        length,
+        length + 1,
+        length + unit,
+    ]
+}
+
+fn spare_bits(events: usize, relations: usize) -> Vec<usize> {
+    let classes = (0..events).flat_map(|event| (2..8).map(move |bit| 32 + 8 * event + bit));
+    let end = 32 + 8 * events;
+    let ends = (0..relations).flat_map(|number| (46..48).map(move |bit| end + 48 * number + bit));
+    (16..32).chain(classes).chain(ends).collect()
+}
+
+/// Every kind, bounded and not, with each of the times.
+fn relations_by_kind(kinds: &[u8], times: &[u32]) -> Vec<Relation> {
+    let mut all = Vec::new();
+    for &kind in kinds {
+        for bounded in [false, true] {
+            for &time in times {
+                all.push(Relation {
+                    kind,
+                    left: 1,
+                    right: 2,
+                    bounded,
+                    time,
+                });
+            }
+        }
+    }
+    all
+}
+
+/// Tables whose last relation has each left and right about the event count.
+fn tables_by_ends(ends: &[u8]) -> Vec<Table> {
+    let mut all = Vec::new();
+    for events in [1, 2, 63, 64] {
+        let ends = [ends, &[0, events as u8 - 1, events as u8]].concat();
+        for &left in &ends {
+            for &right in &ends {
+                let mut table = table(events, SMALL);
+                table.relations[SMALL - 1].left = left;
+                table.relations[SMALL - 1].right = right;
+                all.push(table);
+            }
+        }
+    }
+    all
+}
+
+fn tables_with_last(relations: Vec<Relation>) -> Vec<Table> {
+    relations
+        .into_iter()
+        .map(|relation| {
+            let mut table = table(SMALL, SMALL);
+            table.relations[SMALL - 1] = relation;
+            table
+        })
+        .collect()
+}
+
+/// Every flag set and not, with each age and each deadline.
+fn records(times: &[u32]) -> Vec<Record> {
+    let mut all = Vec::new();
+    for flags in 0..16 {
+        for &age in times {
+            for &deadline in times {
+                all.push(Record {
+                    age,
+                    deadline,
+                    happened: flags & 1 != 0,
+                    included: flags & 2 != 0,
+                    pending: flags & 4 != 0,
+                    bounded: flags & 8 != 0,
+                });
+            }
+        }
+    }
+    all
+}
+
+fn markings_with_last(records: Vec<Record>) -> Vec<Marking> {
+    records
+        .into_iter()
+        .map(|record| {
+            let mut marking = marking(SMALL);
+            marking.records[SMALL - 1] = record;
+            marking
+        })
+        .collect()
+}
+
+const BAD_RECORD: Record = Record {
+    age: 1,
+    ..Record::EMPTY
+};
+
+/// Markings with one bad record: at used places, and at unused ones, where no
+/// call looks.
+fn markings_with_one_bad() -> Vec<Marking> {
+    let mut all = Vec::new();
+    for events in [1, 2, 63, 64] {
+        for place in [0, 1, events - 1, events, 63] {
+            let mut marking = marking(events);
+            if let Some(record) = marking.records.get_mut(place) {
+                *record = BAD_RECORD;
+            }
+            all.push(marking);
+        }
+    }
+    all
+}
+
+type TableFault = fn(&mut Table);
+
+/// One fault for each number, at the first relation and at the second.
+const TABLE_FAULTS: [TableFault; 12] = [
+    |table| table.events = 0,
+    |table| table.events = 65,
+    |table| table.count = 257,
+    |table| table.relations[0].kind = 0,
+    |table| table.relations[0].left = 60,
+    |table| table.relations[0].right = 60,
+    |table| table.relations[0].bounded = false,
+    |table| table.relations[1].kind = 6,
+    |table| table.relations[1].left = 60,
+    |table| table.relations[1].right = 60,
+    |table| table.relations[1].time = LIMIT + 1,
+    |table| table.relations[SMALL].kind = 7,
+];
+
+type ImageFault = fn(&mut Vec<u8>);
+
+/// The image of a small table has the classes at bytes 4 to 6, and relations of
+/// 6 bytes from 7 on.
+const IMAGE_FAULTS: [ImageFault; 13] = [
+    |image| image.truncate(3),
+    |image| image.truncate(4),
+    |image| image[2] |= 0x80,
+    |image| image[3] |= 0x01,
+    |image| image[0] &= 0x01,
+    |image| image[0] = 0x83,
+    |image| image[1] = 0x04,
+    |image| image.truncate(image.len().saturating_sub(1)),
+    |image| image.push(0),
+    |image| set_bit_of(image, 4, 0x20),
+    |image| set_bit_of(image, 6, 0x01),
+    |image| set_bit_of(image, 12, 0x02),
+    |image| set_bit_of(image, 18, 0x01),
+];
+
+fn set_bit_of(image: &mut [u8], place: usize, bit: u8) {
+    if let Some(byte) = image.get_mut(place) {
+        *byte |= bit;
+    }
+}
+
+fn faulty_tables() -> Vec<Table> {
+    let mut all = Vec::new();
+    for one in TABLE_FAULTS {
+        for other in TABLE_FAULTS {
+            let mut table = table(SMALL, SMALL);
+            one(&mut table);
+            other(&mut table);
+            all.push(table);
+        }
+    }
+    all
+}
+
+/// Each fault of an image after each fault of the table, and after each other.
+fn faulty_images() -> Vec<Vec<u8>> {
+    let mut images = Vec::new();
+    for one in TABLE_FAULTS {
+        let mut table = table(SMALL, SMALL);
+        one(&mut table);
+        images.push(table_image(&table));
+    }
+    for one in IMAGE_FAULTS {
+        let mut image = table_image(&table(SMALL, SMALL));
+        one(&mut image);
+        images.push(image);
+    }
+    let mut all = images.clone();
+    for image in images.iter().filter(|image| image.len() >= 4) {
+        for other in IMAGE_FAULTS {
+            let mut image = image.clone();
+            other(&mut image);
+            all.push(image);
+        }
+    }
+    all
+}
+
+fn images_by_length() -> Vec<Vec<u8>> {
+    let mut all = Vec::new();
+    for &events in EVENT_COUNTS_OF_AN_IMAGE {
+        for &count in RELATION_COUNTS_OF_AN_IMAGE {
+            let image = table_image(&table(events, count));
+            for length in lengths_about(image.len(), 6) {
+                all.push(resized(&image, length));
+            }
+        }
+    }
+    let small = table_image(&table(SMALL, SMALL));
+    all.extend((0..small.len()).map(|length| resized(&small, length)));
+    all
+}
+
+fn images_by_bit() -> Vec<Vec<u8>> {
+    let small = table_image(&table(SMALL, 8));
+    let full = table_image(&table(64, 256));
+    let mut all: Vec<Vec<u8>> = (0..8 * small.len())
+        .map(|bit| flipped(&small, bit))
+        .collect();
+    all.extend(
+        spare_bits(64, 256)
+            .into_iter()
+            .map(|bit| flipped(&full, bit)),
+    );
+    all
+}
+
+pub fn read_table() -> Vec<Case> {
+    let kinds: Vec<u8> = (0..8).collect();
+    let mut tables = tables_with_last(relations_by_kind(&kinds, TIMES_OF_AN_IMAGE));
+    tables.extend(tables_by_ends(&[62, 63]));
+    let mut images: Vec<Vec<u8>> = tables.iter().map(table_image).collect();
+    images.extend(images_by_length());
+    images.extend(images_by_bit());
+    images.extend(faulty_images());
+    images
+        .into_iter()
+        .map(|bytes| Case::ReadTable { bytes })
+        .collect()
+}
+
+fn read_marking_of(events: usize, bytes: Vec<u8>) -> Case {
+    Case::ReadMarking { events, bytes }
+}
+
+pub fn read_marking() -> Vec<Case> {
+    let mut cases = Vec::new();
+    for events in EVENT_COUNTS {
+        let image = marking_image(&marking(events));
+        for length in lengths_about(image.len(), 8) {
+            cases.push(read_marking_of(events, resized(&image, length)));
+        }
+        cases.push(read_marking_of(events, Vec::new()));
+    }
+    let mut markings = markings_with_last(records(TIMES_OF_AN_IMAGE));
+    markings.extend(markings_with_one_bad());
+    for marking in &markings {
+        cases.push(read_marking_of(marking.events, marking_image(marking)));
+        // A wrong length and a bad record: the length comes first.
+        cases.push(read_marking_of(marking.events - 1, marking_image(marking)));
+    }
+    let small = marking_image(&marking(SMALL));
+    cases.extend((0..8 * small.len()).map(|bit| read_marking_of(SMALL, flipped(&small, bit))));
+    cases
+}
+
+fn write_marking_of(marking: &Marking, length: usize) -> Case {
+    Case::WriteMarking {
+        marking: Box::new(*marking),
+        buffer: (0..length).map(|place| 0xA5 ^ place as u8).collect(),
+    }
+}
+
+pub fn write_marking() -> Vec<Case> {
+    let mut cases = Vec::new();
+    for events in EVENT_COUNTS {
+        let marking = marking(events);
+        for length in lengths_about(8 * events.min(70), 8) {
+            cases.push(write_marking_of(&marking, length));
+        }
+        cases.push(write_marking_of(&marking, 0));
+    }
+    for marking in markings_with_last(records(&TIMES)) {
+        cases.push(write_marking_of(&marking, 8 * SMALL + 3));
+    }
+    for marking in markings_with_one_bad() {
+        for length in lengths_about(8 * marking.events, 8) {
+            cases.push(write_marking_of(&marking, length));
+        }
+    }
+    cases
+}
+
+pub fn fresh() -> Vec<Case> {
+    (0..300)
+        .chain(EVENT_COUNTS)
+        .map(|events| Case::Fresh { events })
+        .collect()
+}
+
+fn judge_table_of(table: Table) -> Case {
+    Case::JudgeTable {
+        table: Box::new(table),
+    }
+}
+
+pub fn judge_table() -> Vec<Case> {
+    let mut kinds: Vec<u8> = (0..10).collect();
+    kinds.extend([128, 255]);
+    let mut tables = tables_with_last(relations_by_kind(&kinds, &TIMES));
+    tables.extend(tables_by_ends(&[62, 63, 64, 65, 127, 128, 200, 255]));
+    tables.extend(faulty_tables());
+    for events in EVENT_COUNTS {
+        tables.extend(RELATION_COUNTS.map(|count| table(events, count)));
+    }
+    for count in [0, 1, 2, 254, 255, 256] {
+        for place in [0, 1, 254, 255] {
+            let mut table = table(64, count);
+            table.relations[place].kind = 9;
+            tables.push(table);
+        }
+    }
+    tables.into_iter().map(judge_table_of).collect()
+}
+
+fn judge_marking_of(events: usize, marking: Marking) -> Case {
+    Case::JudgeMarking {
+        events,
+        marking: Box::new(marking),
+    }
+}
+
+pub fn judge_marking() -> Vec<Case> {
+    let mut cases = Vec::new();
+    for events in EVENT_COUNTS {
+        for own in EVENT_COUNTS {
+            let mut marking = marking(own);
+            cases.push(judge_marking_of(events, marking));
+            marking.records[0] = BAD_RECORD;
+            cases.push(judge_marking_of(events, marking));
+        }
+    }
+    let mut markings = markings_with_last(records(&TIMES));
+    markings.extend(markings_with_one_bad());
+    cases.extend(
+        markings
+            .into_iter()
+            .map(|marking| judge_marking_of(marking.events, marking)),
+    );
+    cases
+}
+
+/// None, all, each event alone, each with all above it, each with all below it.
+fn sets() -> Vec<u64> {
+    let mut all = vec![0];
+    for event in 0..64 {
+        let alone = 1u64 << event;
+        all.extend([alone, u64::MAX << event, alone - 1 + alone]);
+    }
+    all
+}
+
+pub fn size() -> Vec<Case> {
+    sets().into_iter().map(|set| Case::Size { set }).collect()
+}
+
+pub fn lowest() -> Vec<Case> {
+    sets().into_iter().map(|set| Case::Lowest { set }).collect()
+}
+
+#[cfg(test)]
+mod tests {
+    use super::*;
+    use crate::calls::CALLS;
+    use std::collections::BTreeSet;
+
+    /// The numbers that a call's cases at the limits give.
+    fn numbers(cases: Vec<Case>) -> Vec<u8> {
+        let numbers: BTreeSet<u8> = cases.iter().map(|case| case.answer().number()).collect();
+        numbers.into_iter().collect()
+    }
+
+    #[test]
+    fn every_number_comes_up_at_the_limits() {
+        assert_eq!(numbers(read_table()), [0, 1, 2, 3, 4, 5, 6]);
+        assert_eq!(numbers(read_marking()), [0, 1, 3, 7]);
+        assert_eq!(numbers(write_marking()), [0, 3, 7, 14]);
+        assert_eq!(numbers(fresh()), [0, 3]);
+        assert_eq!(numbers(judge_table()), [0, 3, 4, 5, 6]);
+        assert_eq!(numbers(judge_marking()), [0, 1, 3, 7]);
+    }
+
+    #[test]
+    fn each_spare_bit_alone_is_refused() {
+        let full = table_image(&table(64, 256));
+        for bit in spare_bits(64, 256) {
+            let bytes = flipped(&full, bit);
+            assert_eq!(Case::ReadTable { bytes }.answer().number(), 2, "bit {bit}");
+        }
+    }
+
+    #[test]
+    fn the_sound_values_are_sound() {
+        assert_eq!(judge_table_of(table(64, 256)).answer().number(), 0);
+        assert_eq!(judge_marking_of(64, marking(64)).answer().number(), 0);
+    }
+
+    #[test]
+    fn a_payload_fits_its_room() {
+        for call in &CALLS {
+            for case in (call.edges)() {
+                assert!(crate::wire::payload(&case).len() <= crate::wire::MOST_PAYLOAD);
+            }
+        }
+    }
+}

@@ -1,0 +1,9 @@
+//! Every public call of the proved code meets the second implementation: the
+//! same arguments go to both, and their whole answers are compared as bytes.
+
+#![forbid(unsafe_code)]
+
+pub mod calls;
+pub mod compare;
+pub mod edges;
+pub mod wire;

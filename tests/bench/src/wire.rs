@@ -1,0 +1,251 @@
+//! Arguments and answers as bytes, numbers little-endian. README.md has the
+//! forms; the trial program reads and writes the same.
+
+use second::case::{Answer, Case, Pair};
+use second::{HoldUpAnswer, MarginAnswer, Marking, Record, Relation, RemedyAnswer, Step, Table};
+
+/// The trial program's room for a payload.
+pub const MOST_PAYLOAD: usize = 20_000;
+
+fn put_number(out: &mut Vec<u8>, number: usize) {
+    out.extend((number as u64).to_le_bytes());
+}
+
+fn put_length(out: &mut Vec<u8>, length: usize) {
+    let length = u16::try_from(length).expect("a length fits two bytes");
+    out.extend(length.to_le_bytes());
+}
+
+fn put_relation(out: &mut Vec<u8>, relation: &Relation) {
+    out.extend([relation.kind, relation.left, relation.right]);
+    out.push(u8::from(relation.bounded));
+    out.extend(relation.time.to_le_bytes());
+}
+
+fn put_table(out: &mut Vec<u8>, table: &Table) {
+    for relation in &table.relations {
+        put_relation(out, relation);
+    }
+    out.extend(table.controllable.to_le_bytes());
+    out.extend(table.causable.to_le_bytes());
+    put_number(out, table.events);
+    put_number(out, table.count);
+}
+
+fn put_record(out: &mut Vec<u8>, record: &Record) {
+    out.extend(record.age.to_le_bytes());
+    out.extend(record.deadline.to_le_bytes());
+    out.push(u8::from(record.happened));
+    out.push(u8::from(record.included));
+    out.push(u8::from(record.pending));
+    out.push(u8::from(record.bounded));
+}
+
+fn put_marking(out: &mut Vec<u8>, marking: &Marking) {
+    for record in &marking.records {
+        put_record(out, record);
+    }
+    put_number(out, marking.events);
+}
+
+fn put_pair(out: &mut Vec<u8>, pair: &Pair) {
+    put_table(out, &pair.table);
+    put_marking(out, &pair.marking);
+}
+
+fn put_steps(out: &mut Vec<u8>, steps: &[Step]) {
+    for step in steps {
+        out.extend([step.kind, step.event]);
+    }
+}
+
+/// A list behind its length, where another one follows.
+fn put_list(out: &mut Vec<u8>, list: &[u8]) {
+    put_length(out, list.len());
+    out.extend(list);
+}
+
+/// The arguments of a call.
+pub fn payload(case: &Case) -> Vec<u8> {
+    let mut out = Vec::new();
+    match case {
+        Case::ReadTable { bytes } => out.extend(bytes),
+        Case::ReadMarking { events, bytes } => {
+            put_number(&mut out, *events);
+            out.extend(bytes);
+        }
+        Case::WriteMarking { marking, buffer } => {
+            put_marking(&mut out, marking);
+            out.extend(buffer);
+        }
+        Case::Fresh { events } => put_number(&mut out, *events),
+        Case::JudgeTable { table } => put_table(&mut out, table),
+        Case::JudgeMarking { events, marking } => {
+            put_number(&mut out, *events);
+            put_marking(&mut out, marking);
+        }
+        Case::Size { set } | Case::Lowest { set } => out.extend(set.to_le_bytes()),
+        Case::Enabled { pair, event }
+        | Case::Request { pair, event }
+        | Case::Report { pair, event }
+        | Case::HoldUp { pair, event } => {
+            put_pair(&mut out, pair);
+            put_number(&mut out, *event);
+        }
+        Case::Margin { pair, relation } => {
+            put_pair(&mut out, pair);
+            put_number(&mut out, *relation);
+        }
+        Case::Due { pair }
+        | Case::PlainTick { pair }
+        | Case::Closure { pair }
+        | Case::Check { pair }
+        | Case::GuardedTick { pair } => put_pair(&mut out, pair),
+        Case::Remedies {
+            pair,
+            preferred,
+            fallback,
+        } => {
+            put_pair(&mut out, pair);
+            put_list(&mut out, preferred);
+            out.extend(fallback);
+        }
+        Case::Run {
+            pair,
+            steps,
+            answers,
+        } => {
+            let mut bytes = Vec::new();
+            put_steps(&mut bytes, steps);
+            put_pair(&mut out, pair);
+            put_list(&mut out, &bytes);
+            out.extend(answers);
+        }
+        Case::RunBytes {
+            pair,
+            steps,
+            answers,
+        } => {
+            put_pair(&mut out, pair);
+            put_list(&mut out, steps);
+            out.extend(answers);
+        }
+        Case::Station { input } => out.extend(input),
+    }
+    out
+}
+
+/// A frame for the trial program: the call's number, the payload behind its length.
+pub fn frame(call: u8, payload: &[u8]) -> Vec<u8> {
+    assert!(
+        payload.len() <= MOST_PAYLOAD,
+        "a payload of {} bytes",
+        payload.len()
+    );
+    let mut out = vec![call];
+    put_list(&mut out, payload);
+    out
+}
+
+/// A frame of the trial program's: the answer behind its length.
+pub fn answer_frame(answer: &[u8]) -> Vec<u8> {
+    let mut out = Vec::new();
+    put_list(&mut out, answer);
+    out
+}
+
+/// The stretch of the operator's own list that an answer hands back.
+fn stretch<'a>(case: &'a Case, answer: &RemedyAnswer) -> &'a [u8] {
+    match case {
+        Case::Remedies { fallback, .. } if answer.from_fallback => &fallback[..answer.length],
+        Case::Remedies { preferred, .. } => &preferred[..answer.length],
+        _ => &[],
+    }
+}
+
+/// Which of its cases a margin is, and its value.
+fn margin_case(answer: &MarginAnswer) -> (u8, i32) {
+    match answer {
+        MarginAnswer::Refused(_) | MarginAnswer::NotACondition => (0, 0),
+        MarginAnswer::Ignored => (1, 0),
+        MarginAnswer::Never => (2, 0),
+        MarginAnswer::By(value) => (3, *value),
+    }
+}
+
+/// Which of its cases a hold-up is, and its relation.
+fn hold_up_case(answer: &HoldUpAnswer) -> (u8, usize) {
+    match answer {
+        HoldUpAnswer::Refused(_) | HoldUpAnswer::Enabled => (0, 0),
+        HoldUpAnswer::Excluded => (1, 0),
+        HoldUpAnswer::Blocked(relation) => (2, *relation),
+    }
+}
+
+/// The whole answer, its number first, and the lent buffer afterwards.
+pub fn answer(case: &Case, answer: &Answer) -> Vec<u8> {
+    let mut out = vec![answer.number()];
+    match answer {
+        Answer::ReadTable(read) => put_table(&mut out, &read.table),
+        Answer::ReadMarking(read) => put_marking(&mut out, &read.marking),
+        Answer::Written { buffer, .. } => out.extend(buffer),
+        Answer::Number(_) => {}
+        // Of an event set, which is never refused.
+        Answer::Count(count) => out = vec![*count],
+        Answer::Enabled(answer) => out.push(u8::from(answer.enabled)),
+        Answer::Set(answer) => out.extend(answer.set.to_le_bytes()),
+        Answer::Marking(answer) => put_marking(&mut out, &answer.marking),
+        Answer::Margin(answer) => {
+            let (case, value) = margin_case(answer);
+            out.push(case);
+            out.extend(value.to_le_bytes());
+        }
+        Answer::HoldUp(answer) => {
+            let (case, relation) = hold_up_case(answer);
+            out.push(case);
+            put_number(&mut out, relation);
+        }
+        Answer::Check(answer) => {
+            out.push(answer.reason);
+            put_number(&mut out, usize::from(answer.place));
+        }
+        Answer::Guarded(answer) => {
+            out.push(answer.reason);
+            put_number(&mut out, usize::from(answer.place));
+            out.extend(answer.caused);
+            put_number(&mut out, usize::from(answer.count));
+            put_marking(&mut out, &answer.marking);
+        }
+        Answer::Remedy(answer) => {
+            out.push(u8::from(answer.from_fallback));
+            put_number(&mut out, answer.length);
+            out.extend(stretch(case, answer));
+        }
+        Answer::Run { end, answers } => {
+            put_marking(&mut out, &end.marking);
+            out.extend(answers);
+        }
+        Answer::Station(output) => out.clone_from(output),
+    }
+    out
+}
+
+#[cfg(test)]
+mod tests {
+    use super::*;
+
+    #[test]
+    fn a_table_and_a_marking_have_their_sizes() {
+        let mut table = Vec::new();
+        put_table(&mut table, &Table::EMPTY);
+        assert_eq!(table.len(), 2080);
+        let mut marking = Vec::new();
+        put_marking(&mut marking, &Marking::EMPTY);
+        assert_eq!(marking.len(), 776);
+    }
+
+    #[test]
+    fn a_frame_says_its_length() {
+        assert_eq!(frame(4, &[9; 300])[..4], [4, 44, 1, 9]);
+    }
+}
