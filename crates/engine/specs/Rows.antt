@@ -19,6 +19,10 @@ use Rattle.engine.specs.declared.inhibition.Choice.the-variants.{Ready, 
 unfoldable pub leadsOn : ℕ → ℕ → Relation → Bool
 leadsOn conditions milestones k = cond (isCondition k) (has conditions (k .right)) (cond (isMilestone k) (has milestones (k .right)) false)
 
+-- every event, whether it exists or not
+abbrev pub everyEvent : ℕ
+everyEvent = 18_446_744_073_709_551_615
+
 -- relation k leads on from e to x
 abbrev pub leadsFrom : Table → ℕ → ℕ → ℕ → ℕ → ℕ → Bool
 leadsFrom t conditions milestones e x k = leadsOn conditions milestones (relationOf t k) && leads (relationOf t k) e x

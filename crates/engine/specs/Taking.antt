@@ -1,14 +1,25 @@
 -- The taking of needed events, as a state that is carried on from event to event.
 use mathlib.Core.Bool.{cond}
-use mathlib.Core.List.{List, [], _∷_}
-use Prim.Native.Nat.{ℕ, _+_}
-use lib.ListN.{set, replicate}
+use mathlib.Core.List.{List, [], _∷_, _++_}
+use Prim.Native.Nat.{ℕ, _+_, _-_}
+use lib.ListN.{length, set, replicate}
 use Rattle.rules.specs.declared.Table.{Table}
 use Rattle.rules.specs.declared.Marking.{Marking}
 use Rattle.rules.specs.declared.GuardedAnswer.{GuardedAnswer}
 use Rattle.rules.specs.Holds.{recordOf}
 use Rattle.rules.specs.Effect.{effect}
 use Rattle.rules.specs.Time.{time}
+
+-- an answer with the events that were executed, places past them 0
+abbrev pub answered : ℕ → ℕ → ℕ → List ℕ → Marking → GuardedAnswer
+answered number reason place events m = record {
+  number = number;
+  reason = reason;
+  place = place;
+  caused = events ++ replicate (64 - length events) 0;
+  count = length events;
+  marking = m;
+}
 
 -- an answer that has caused nothing: a refusal, or the start
 abbrev pub nothing : ℕ → ℕ → ℕ → Marking → GuardedAnswer

@@ -12,7 +12,7 @@ ghost use Rattle.rules.specs.Judge.{judged};
 ghost use Rattle.rules.specs.Laws.Ask.{askNumber, asked};
 
 // The judge's number, then 8, 9, 10.
-fn number_of(t: Table, m: Marking, event: usize, controllable: bool) -> u8
+fn ask_number(t: Table, m: Marking, event: usize, controllable: bool) -> u8
     ensures { λ r. ⌜ r ≡ (judged t m else askNumber controllable t m event) ⌝ }
 {
     let number = judge_event(t, m, event);
@@ -32,7 +32,7 @@ fn number_of(t: Table, m: Marking, event: usize, controllable: bool) -> u8
 pub fn ask(t: Table, m: Marking, event: usize, controllable: bool) -> MarkingAnswer
     ensures { λ r. ⌜ r ≡ asked controllable t m event ⌝ }
 {
-    let number = number_of(t, m, event, controllable);
+    let number = ask_number(t, m, event, controllable);
     if number == 0 {
         let after = effect(t, m, event);
         return MarkingAnswer {

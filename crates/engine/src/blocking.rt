@@ -11,7 +11,7 @@ ghost use Rattle.rules.specs.Enabled.{stops, blocks};
 ghost use Rattle.rules.specs.Laws.Judge.{Good};
 
 // A relation stops its left event, where r is the record of its right event.
-fn stopping(k: Relation, r: Record) -> bool
+fn stops(k: Relation, r: Record) -> bool
     ensures { λ b. ⌜ b ≡ stops k r ⌝ }
 {
     if r.included {
@@ -29,11 +29,11 @@ fn stopping(k: Relation, r: Record) -> bool
 }
 
 // A relation stops e, where r is the record of its right event.
-fn stopping_event(k: Relation, r: Record, e: usize) -> bool
+fn stops_event(k: Relation, r: Record, e: usize) -> bool
     ensures { λ b. ⌜ b ≡ eqb (k .left) e && stops k r ⌝ }
 {
     if k.left as usize == e {
-        return stopping(k, r);
+        return stops(k, r);
     }
     false
 }
@@ -52,7 +52,7 @@ pub fn first_blocking(t: Table, m: Marking, e: usize) -> usize
         let k = t.relations[i];
         let x = k.right as usize;
         let r = m.records[x];
-        if stopping_event(k, r, e) {
+        if stops_event(k, r, e) {
             break i;
         }
         i += 1;

@@ -21,7 +21,7 @@ pub struct Reach {
 }
 
 // A reach with one response more: the smaller deadline, "eventually" being largest.
-fn responding(k: Relation, reach: Reach) -> Reach
+fn sooner(k: Relation, reach: Reach) -> Reach
     ensures { λ r. ⌜ r ≡ sooner k reach ⌝ }
 {
     let next = Reach {
@@ -43,12 +43,12 @@ fn responding(k: Relation, reach: Reach) -> Reach
 }
 
 // A reach with one relation more.
-fn widened(k: Relation, reach: Reach) -> Reach
+fn wider(k: Relation, reach: Reach) -> Reach
     ensures { λ r. ⌜ r ≡ wider k reach ⌝ }
 {
     let mut next = reach;
     if k.kind == 2 {
-        return responding(k, reach);
+        return sooner(k, reach);
     }
     if k.kind == 3 {
         next.included = true;
@@ -62,7 +62,7 @@ fn widened(k: Relation, reach: Reach) -> Reach
 }
 
 // What the relations from e do to each event.
-fn reaches(t: Table, e: usize) -> [Reach; 64]
+fn reached(t: Table, e: usize) -> [Reach; 64]
     requires { ⌜ GoodTable t ⌝ }
     ensures { λ r. ⌜ ((x : ℕ) → x < 64 → getD r x noReach ≡ reached t e x (t .count)) ⌝ }
 {
@@ -81,7 +81,7 @@ fn reaches(t: Table, e: usize) -> [Reach; 64]
         if k.left as usize == e {
             let x = k.right as usize;
             let reach = out[x];
-            let next = widened(k, reach);
+            let next = wider(k, reach);
             out[x] = next;
         }
         i += 1;
@@ -90,7 +90,7 @@ fn reaches(t: Table, e: usize) -> [Reach; 64]
 }
 
 // First e itself.
-fn executing(own: bool, r: Record) -> Record
+fn executed_if(own: bool, r: Record) -> Record
     ensures { λ q. ⌜ q ≡ cond own (executed r) r ⌝ }
 {
     if own {
@@ -107,7 +107,7 @@ fn executing(own: bool, r: Record) -> Record
 }
 
 // Then a target's inclusion; inclusion wins over exclusion.
-fn including(reach: Reach, r: Record) -> Record
+fn with_inclusion(reach: Reach, r: Record) -> Record
     ensures { λ q. ⌜ q ≡ withInclusionBy reach r ⌝ }
 {
     let mut after = r;
@@ -123,7 +123,7 @@ fn including(reach: Reach, r: Record) -> Record
 }
 
 // Then a target's deadline, which replaces what it had.
-fn asking(reach: Reach, r: Record) -> Record
+fn responded(reach: Reach, r: Record) -> Record
     ensures { λ q. ⌜ q ≡ respondedBy reach r ⌝ }
 {
     if reach.pending {
@@ -143,9 +143,9 @@ fn asking(reach: Reach, r: Record) -> Record
 fn changed(reach: Reach, own: bool, r: Record) -> Record
     ensures { λ q. ⌜ q ≡ changedBy reach own r ⌝ }
 {
-    let first = executing(own, r);
-    let second = including(reach, first);
-    asking(reach, second)
+    let first = executed_if(own, r);
+    let second = with_inclusion(reach, first);
+    responded(reach, second)
 }
 
 // The effect of e.
@@ -153,7 +153,7 @@ pub fn effect(t: Table, m: Marking, e: usize) -> Marking
     requires { ⌜ Good t m ⌝ }
     ensures { λ r. ⌜ r ≡ effect t m e ⌝ }
 {
-    let reach = reaches(t, e);
+    let reach = reached(t, e);
     let n = m.events;
     let mut records = m.records;
     let mut x = 0;

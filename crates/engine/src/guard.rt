@@ -12,10 +12,8 @@ ghost use mathlib.Core.Path.{_≡_};
 ghost use Prim.Native.Nat.{ℕ, _<_, _^_};
 ghost use Rattle.rules.specs.Guard.{needed, orderOf, caused, guarded};
 ghost use Rattle.rules.specs.Laws.Judge.{Good};
-ghost use Rattle.engine.specs.Rows.{Rows};
-ghost use Rattle.engine.specs.Taking.{nothing, takenOne, carriedOn};
-ghost use Rattle.engine.specs.Laws.Followed.{everyEvent};
-ghost use Rattle.engine.specs.Laws.Taking.{told};
+ghost use Rattle.engine.specs.Rows.{everyEvent, Rows};
+ghost use Rattle.engine.specs.Taking.{answered, nothing, takenOne, carriedOn};
 
 // An answer that has caused nothing.
 pub fn nothing(number: u8, reason: u8, place: usize, m: Marking) -> GuardedAnswer
@@ -96,20 +94,20 @@ fn take_all(t: Table, m: Marking, rows: [u64; 64], needed: u64) -> GuardedAnswer
 // What is needed is taken, then one tick passes.
 pub fn guarded(t: Table, m: Marking) -> GuardedAnswer
     requires { ⌜ Good t m ⌝ }
-    ensures { λ r. ⌜ r ≡ told (nothing 0 0 0 m) (caused t m) (guarded t m) ⌝ }
+    ensures { λ r. ⌜ r ≡ answered 0 0 0 (caused t m) (guarded t m) ⌝ }
 {
     let rows = inhibition::inhibitors(t, inhibition::EVERY, inhibition::EVERY);
     let untaken = needed(t, m);
     let s = take_all(t, m, rows, untaken);
     let taken = s.marking;
     let caused = s.caused;
-    let after = time::time(taken);
+    let later = time::time(taken);
     GuardedAnswer {
         number: s.number,
         reason: s.reason,
         place: s.place,
         caused,
         count: s.count,
-        marking: after,
+        marking: later,
     }
 }

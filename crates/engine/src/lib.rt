@@ -145,8 +145,11 @@ pub fn closure(t: Table, m: Marking) -> SetAnswer
     let number = judge::judge(t, m);
     if number == 0 {
         let rows = inhibition::inhibitors(t, inhibition::EVERY, inhibition::EVERY);
-        let set = reasons::closure(t, m, rows);
-        return SetAnswer { number: 0, set };
+        let closed = reasons::closure(t, m, rows);
+        return SetAnswer {
+            number: 0,
+            set: closed,
+        };
     }
     SetAnswer { number, set: 0 }
 }

@@ -17,8 +17,7 @@ ghost use Rattle.rules.specs.Closure.{closure};
 ghost use Rattle.rules.specs.Check.{unreportable, verdict};
 ghost use Rattle.rules.specs.Laws.Judge.{GoodTable, Good};
 ghost use Rattle.engine.specs.Reasons.{suits, applies, firstReason, verdictOf};
-ghost use Rattle.engine.specs.Rows.{Rows};
-ghost use Rattle.engine.specs.Laws.Followed.{everyEvent};
+ghost use Rattle.engine.specs.Rows.{everyEvent, Rows};
 
 pub enum Reason {
     Waiting,

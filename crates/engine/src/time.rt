@@ -65,7 +65,7 @@ fn nearer(bounded: bool, deadline: u32) -> u32
 }
 
 // A record one tick later.
-fn aged(r: Record) -> Record
+fn later(r: Record) -> Record
     ensures { λ q. ⌜ q ≡ later r ⌝ }
 {
     Record {
@@ -88,7 +88,7 @@ pub fn time(m: Marking) -> Marking
     let mut i = 0;
     while i < n {
         let r = records[i];
-        let q = aged(r);
+        let q = later(r);
         records[i] = q;
         i += 1;
     }

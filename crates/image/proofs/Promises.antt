@@ -17,6 +17,10 @@ use Rattle.rules.specs.Image.{markingFrom, readMarking, writeNumber, writeMarki
 use Rattle.image.specs.Theorems.{read-table-accepted, read-marking-accepted, fresh-accepted, written-is-read, read-is-written}
 use Rattle.rules.proofs.Marking.fresh.Kinds as fresh-kinds
 use Rattle.rules.proofs.Marking.fresh.Reads as fresh
+use Rattle.rules.proofs.Marking.empty.Kinds as empty-kinds
+use Rattle.rules.proofs.Marking.empty.Reads as empty
+use Rattle.rules.proofs.MarkingAnswer.refused.Kinds as refused-kinds
+use Rattle.rules.proofs.MarkingAnswer.refused.Reads as refused
 use Rattle.image.proofs.read_table.Kinds as read-table-kinds
 use Rattle.image.proofs.read_table.Reads as read-table
 use Rattle.image.proofs.read_marking.Kinds as read-marking-kinds
@@ -51,6 +55,12 @@ judge-marking-once κs a one other x y p q = p ∙ sym q
 
 pub fresh-once : OneAnswer 0 fresh-kinds.ps fresh-kinds.r fresh.Learnt
 fresh-once κs a one other x y p q = p ∙ sym q
+
+pub empty-once : OneAnswer 0 empty-kinds.ps empty-kinds.r empty.Learnt
+empty-once κs a one other x y p q = p ∙ sym q
+
+pub refused-once : OneAnswer 0 refused-kinds.ps refused-kinds.r refused.Learnt
+refused-once κs a one other x y p q = p ∙ sym q
 
 -- .. and so are two buffers that are handed back
 pub write-marking-bytes-once : (κs : Lfts 1) (a : Dens κs write-marking-kinds.ps) (one other : ℕ)

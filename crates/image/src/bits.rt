@@ -5,6 +5,9 @@ ghost use Prim.Native.Nat.{_+_, _*_, _≤_};
 ghost use lib.ListN.{length, take, drop};
 ghost use Rattle.rules.specs.Fields.{field, bytesOf};
 
+// A field of ticks, as an age, a time or a deadline, has 30 bits: it is a remainder by this.
+pub const TICKS: u64 = 1_073_741_824;
+
 // The number in `count` bytes from byte `at` on.
 pub fn word(image: &[u8], at: usize, count: usize) -> u64
     requires { ⌜ (at + count ≤ length (now image)) × (count ≤ 8) ⌝ }

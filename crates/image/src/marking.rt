@@ -18,8 +18,8 @@ fn record_of(w: u64) -> Record
     ensures { λ r. ⌜ r ≡ recordOfWord w ⌝ }
 {
     Record {
-        age: ((w >> 33) % 1073741824) as u32,
-        deadline: (w % 1073741824) as u32,
+        age: ((w >> 33) % bits::TICKS) as u32,
+        deadline: (w % bits::TICKS) as u32,
         happened: (w >> 63) % 2 == 1,
         included: (w >> 32) % 2 == 1,
         pending: (w >> 31) % 2 == 1,
@@ -33,11 +33,11 @@ fn word_of(r: Record) -> u64
     ensures { λ w. ⌜ w ≡ wordOfRecord r ⌝ }
 {
     let mut w = r.happened as u64;
-    w = w * 1073741824 + r.age as u64;
+    w = w * bits::TICKS + r.age as u64;
     w = w * 2 + r.included as u64;
     w = w * 2 + r.pending as u64;
     w = w * 2 + r.bounded as u64;
-    w * 1073741824 + r.deadline as u64
+    w * bits::TICKS + r.deadline as u64
 }
 
 // So many records, or the first number that one gives.

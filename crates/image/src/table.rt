@@ -51,7 +51,7 @@ fn relation_of(w: u64) -> Relation
         left: ((w >> 39) % 64) as u8,
         right: ((w >> 33) % 64) as u8,
         bounded: (w >> 32) % 2 == 1,
-        time: ((w >> 2) % 1073741824) as u32,
+        time: ((w >> 2) % bits::TICKS) as u32,
     }
 }
 

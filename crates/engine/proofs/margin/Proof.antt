@@ -8,8 +8,7 @@ use lib.Dec.{ltb}
 use Rattle.rules.specs.Numbers.{_if_}
 use Rattle.rules.specs.Margin.{margin}
 use Rattle.rules.specs.Laws.Judge.{Good, good}
-use Rattle.rules.specs.Laws.Told.{right-told, margin-told}
-use Rattle.rules.specs.Laws.Numbers.{else-refused}
+use Rattle.rules.specs.Laws.Told.{right-told, margin-told, stands}
 use Rattle.engine.proofs.margin.Statement.{statement}
 use Rattle.engine.proofs.margin.Tie as tie
 
@@ -32,7 +31,7 @@ mul-r : tie.Need-mul-r
 mul-r c = search needs
 
 element-copy-out-r : tie.Need-element-copy-out-r
-element-copy-out-r c = right-told (told-of (c .before .before .before)) _ (c .before .before .if2 .taken)
+element-copy-out-r c = right-told (told-of (c .before .before .before) .table-good) _ (c .before .before .if2 .taken)
 
 margin-of-requires : tie.Need-margin-of-requires
 margin-of-requires c κs = margin-told (told-of (c .before .before .before .before)) _ (c .before .before .before .if2 .taken)
@@ -50,9 +49,8 @@ returns-2 c = rw (sym (c .before .before .judge .ensures) ∙ c .before .if1 .ta
 returns-3 : tie.Need-returns-3
 unfolding margin
 returns-3 c =
-    let told = c .before .judge .ensures in
-    let same = told ∙ sym (else-refused (8 if not (ltb (c .before .before .args .relation) (c .before .before .args .t1 .count))) (λ z. c .if1 .left (told ∙ z))) in
-    rw (← same, ne-eqb _ _ (c .if1 .left))
+    let next = 8 if not (ltb (c .before .before .args .relation) (c .before .before .args .t1 .count)) in
+    rw (← stands next (c .before .judge .ensures) (c .if1 .left), ne-eqb _ _ (c .if1 .left))
 
 pub margin-spec : {M : Type 1} → statement M
 margin-spec =

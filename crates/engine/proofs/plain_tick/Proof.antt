@@ -4,9 +4,8 @@ use borrow.Author.Tests.{ne-eqb}
 use borrow.Author.Needs.{needs}
 use Rattle.rules.specs.Time.{plainTick, plainTickNumber}
 use Rattle.rules.specs.Laws.Judge.{good}
-use Rattle.rules.specs.Laws.Told.{few-marked}
+use Rattle.rules.specs.Laws.Told.{few-marked, stands}
 use Rattle.rules.specs.Laws.Time.{none-due-yet, some-due-still}
-use Rattle.rules.specs.Laws.Numbers.{else-refused}
 use Rattle.engine.proofs.plain_tick.Statement.{statement}
 use Rattle.engine.proofs.plain_tick.Tie as tie
 
@@ -36,9 +35,7 @@ returns-2 c =
 returns-3 : tie.Need-returns-3
 unfolding plainTick
 returns-3 c =
-    let told = c .before .judge .ensures in
-    let same = told ∙ sym (else-refused (plainTickNumber (c .before .before .args .m)) (λ z. c .if1 .left (told ∙ z))) in
-    rw (← same, ne-eqb _ _ (c .if1 .left))
+    rw (← stands (plainTickNumber (c .before .before .args .m)) (c .before .judge .ensures) (c .if1 .left), ne-eqb _ _ (c .if1 .left))
 
 pub plain-tick-spec : {M : Type 1} → statement M
 plain-tick-spec =

@@ -29,7 +29,7 @@ use Rattle.rules.specs.Laws.Widened.{has-below, widened-fits, widened-keeps, wi
 use Rattle.engine.specs.declared.collect.Mark.{Mark}
 use Rattle.engine.specs.declared.collect.Mark.the-variants.{Missing, Pending}
 use Rattle.engine.specs.Collect.{isMarked, marked}
-use Rattle.engine.specs.Rows.{leadsOn, leadsFrom, Rows, joinedBelow, joined}
+use Rattle.engine.specs.Rows.{everyEvent, leadsOn, leadsFrom, Rows, joinedBelow, joined}
 use Rattle.engine.specs.Laws.Collect.{left-small, right-small}
 
 or-assoc : (a b c : Bool) → ((a || b) || c) ≡ (a || (b || c))
@@ -127,9 +127,6 @@ module _ (t : Table) (good : GoodTable t) (conditions milestones : ℕ) (rows : 
     joined-fully set h = joined-rounds (t .events) set h
 
 -- Every inhibitor: the rows for all events.
-abbrev pub everyEvent : ℕ
-everyEvent = 18_446_744_073_709_551_615
-
 has-every : (x : ℕ) → x < 64 → has everyEvent x ≡ true
 has-every x b = has-not 64 0 x (lit< tt) b ∙ ap not (has-zero x)
 

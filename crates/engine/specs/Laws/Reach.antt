@@ -17,7 +17,7 @@ use Rattle.rules.specs.declared.Record.{Record}
 use Rattle.rules.specs.Counting.{some}
 use Rattle.rules.specs.Holds.{isResponse, isInclusion, isExclusion, relationOf}
 use Rattle.rules.specs.Judge.{timeFits}
-use Rattle.rules.specs.Effect.{Deadline, none, eventually, within, smaller, leads, given, smallest, response, responded, withInclusion, withDeadline, excludes, includes, effectAt}
+use Rattle.rules.specs.Effect.{Deadline, none, eventually, within, smaller, leads, given, smallest, response, responded, executed, withInclusion, withDeadline, excludes, includes, effectAt}
 use Rattle.rules.specs.Laws.Tests.{or-false, and-false}
 use Rattle.engine.specs.declared.effect.Reach.{Reach}
 use Rattle.engine.specs.Reach.{reachOf, noReach, reached, sooner, wider, withInclusionBy, respondedBy, changedBy}
@@ -138,3 +138,8 @@ changing out e x = changedBy (getD out x noReach) (eqb x e)
 pub changing-effect : (t : Table) (e : ℕ) (out : List Reach) → Gathered t e out (t .count) → (x : ℕ) (r : Record) → x < 64
     → changing out e x r ≡ effectAt t e x r
 changing-effect t e out all x r b = ap (λ reach. changedBy reach (eqb x e) r) (all x b) ∙ changed-effect t e x r
+
+-- what the three steps make of a record, one after the other
+pub in-order : (reach : Reach) (own : Bool) (r : Record) {first second third : Record}
+    → first ≡ cond own (executed r) r → second ≡ withInclusionBy reach first → third ≡ respondedBy reach second → third ≡ changedBy reach own r
+in-order reach own r p q s = s ∙ ap (respondedBy reach) (q ∙ ap (withInclusionBy reach) p)

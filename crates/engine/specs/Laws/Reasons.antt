@@ -32,9 +32,9 @@ use Rattle.engine.specs.declared.collect.Pick.the-variants.{Answers, Bar
 use Rattle.engine.specs.declared.inhibition.Choice.the-variants.{Cyclic}
 use Rattle.engine.specs.declared.reasons.Reason.the-variants.{Waiting, Reopening, Reviving}
 use Rattle.engine.specs.Collect.{isMarked, marked, picks, endOf, Picked}
-use Rattle.engine.specs.Rows.{Rows, passedAll, isChosen, selected}
+use Rattle.engine.specs.Rows.{everyEvent, Rows, passedAll, isChosen, selected}
 use Rattle.engine.specs.Reasons.{firstReason}
-use Rattle.engine.specs.Laws.Followed.{everyEvent, rows-follow}
+use Rattle.engine.specs.Laws.Followed.{rows-follow}
 use Rattle.engine.specs.Laws.Awaited.{awaited-rows}
 
 -- a word is the set of a test, if its members exist and pass the test where they exist

@@ -37,9 +37,9 @@ use Rattle.rules.specs.Laws.Judge.{GoodTable, GoodMarking, Good, good}
 use Rattle.rules.specs.Laws.Kept.{effect-good}
 use Rattle.rules.specs.Laws.Widened.{has-below}
 use Rattle.engine.specs.declared.inhibition.Choice.the-variants.{Ready}
-use Rattle.engine.specs.Rows.{Rows, isChosen, selected}
-use Rattle.engine.specs.Taking.{nothing, noted, takenOne, carriedOn, afterTick}
-use Rattle.engine.specs.Laws.Followed.{everyEvent, rows-follow}
+use Rattle.engine.specs.Rows.{everyEvent, Rows, isChosen, selected}
+use Rattle.engine.specs.Taking.{answered, nothing, noted, takenOne, carriedOn, afterTick}
+use Rattle.engine.specs.Laws.Followed.{rows-follow}
 use Rattle.engine.specs.Laws.Reasons.{set-by-test}
 
 pub due-fits : (t : Table) (m : Marking) → Good t m → dueSet m < 2 ^ t .events
@@ -174,15 +174,8 @@ module _ (t : Table) (needed : ℕ) where
       }
 
 -- what the state says: these events were executed, and this is the marking
-abbrev pub told : GuardedAnswer → List ℕ → Marking → GuardedAnswer
-told s events m = record {
-  number = s .number;
-  reason = s .reason;
-  place = s .place;
-  caused = events ++ replicate (64 - length events) 0;
-  count = length events;
-  marking = m;
-}
+abbrev told : GuardedAnswer → List ℕ → Marking → GuardedAnswer
+told s events m = answered (s .number) (s .reason) (s .place) events m
 
 snoc-told : (e : ℕ) (events : List ℕ) → length events < 64
     → set (events ++ replicate (64 - length events) 0) (length events) e ≡ (events ++ (e ∷ [])) ++ replicate (64 - length (events ++ (e ∷ []))) 0
@@ -217,17 +210,23 @@ carried-told t s events m (e ∷ l) b =
         ∙ ap (λ (q : List ℕ). told s q (takenAll t (effect t m e) l)) (append-snoc events e (executedOf t (effect t m e) l))
     go false first second = second
 
-pub tick-on : (s : GuardedAnswer) {m : Marking} → m ≡ time (s .marking)
+tick-on : (s : GuardedAnswer) {m : Marking} → m ≡ time (s .marking)
     → record { number = s .number; reason = s .reason; place = s .place; caused = s .caused; count = s .count; marking = m } ≡ afterTick s
 unfolding afterTick
 tick-on s q = rw q
 
 -- from the start, over the whole order: what the definition of the guarded tick says
-pub carried-guarded : (t : Table) (m : Marking) → t .events ≤ 64
-    → afterTick (carriedOn t (nothing 0 0 0 m) (order t m)) ≡ told (nothing 0 0 0 m) (caused t m) (guarded t m)
+carried-guarded : (t : Table) (m : Marking) → t .events ≤ 64 → afterTick (carriedOn t (nothing 0 0 0 m) (order t m)) ≡ answered 0 0 0 (caused t m) (guarded t m)
 unfolding afterTick caused guarded
 carried-guarded t m few =
     ap afterTick (carried-told t (nothing 0 0 0 m) [] m (order t m) (omega (arith, order-few t (t .events) (needed t m))))
+
+pub guarded-is : (t : Table) (m : Marking) → t .events ≤ 64 → {untaken : ℕ} → untaken ≡ needed t m
+    → (s : GuardedAnswer) → s ≡ carriedOn t (nothing 0 0 0 m) (orderOf t (t .events) untaken) → {later : Marking} → later ≡ time (s .marking)
+    → record { number = s .number; reason = s .reason; place = s .place; caused = s .caused; count = s .count; marking = later }
+    ≡ answered 0 0 0 (caused t m) (guarded t m)
+guarded-is t m few n s q l =
+    tick-on s l ∙ ap afterTick (q ∙ ap (λ (untaken : ℕ). carriedOn t (nothing 0 0 0 m) (orderOf t (t .events) untaken)) n) ∙ carried-guarded t m few
 
 -- An answer of the check.
 abbrev Said : CheckAnswer → Type 0
@@ -279,6 +278,6 @@ module _ (t : Table) (m : Marking) where
   unfolding guardedTick
   tick-rejected reason place e = rw e
 
-  pub tick-accepted : check t m ≡ Accepts → told (nothing 0 0 0 m) (caused t m) (guarded t m) ≡ guardedTick t m
+  pub tick-accepted : check t m ≡ Accepts → answered 0 0 0 (caused t m) (guarded t m) ≡ guardedTick t m
   unfolding guardedTick
   tick-accepted e = rw e

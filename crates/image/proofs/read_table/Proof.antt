@@ -121,17 +121,23 @@ returns-6 c =
 relations-in-requires : tie.Need-relations-in-requires
 relations-in-requires c κs = (rw (events (c .before .before .before .before .before .before .before .before)) (fit-few _ (fit (c .before .before .before .before .before))), c .before .before .before .before .if4 .left, c .before .before .before .if5 .left)
 
+-- past the last test no class has a spare bit, and the sets are whole
+done : (c : tie.Else6)
+    → firstOf (eventsIn (c .before .before .before .before .before .before .before .before .before .before .before .args .image .now)) (classNumber (c .before .before .before .before .before .before .before .before .before .before .before .args .image .now)) ≡ 0
+done c = number (c .before .before) ∙ c .if6 .left
+
+controllable : (c : tie.Else6)
+    → c .before .before .classes-in .result .controllable ≡ setOf (eventsIn (c .before .before .before .before .before .before .before .before .before .before .before .args .image .now)) (isControllableIn (c .before .before .before .before .before .before .before .before .before .before .before .args .image .now))
+controllable c = ap (λ (k : Classes). k .controllable) (classes (c .before .before)) ∙ rw (done c)
+
+causable : (c : tie.Else6)
+    → c .before .before .classes-in .result .causable ≡ setOf (eventsIn (c .before .before .before .before .before .before .before .before .before .before .before .args .image .now)) (isCausableIn (c .before .before .before .before .before .before .before .before .before .before .before .args .image .now))
+causable c = ap (λ (k : Classes). k .causable) (classes (c .before .before)) ∙ rw (done c)
+
 returns-7 : tie.Need-returns-7
 returns-7 c =
-    let image = c .before .before .before .before .before .before .before .before .before .before .before .before .args .image .now in
-    let done : firstOf (eventsIn image) (classNumber image) ≡ 0 = number (c .before .before .before) ∙ c .before .if6 .left in
-    let controllable : c .before .before .before .classes-in .result .controllable ≡ setOf (eventsIn image) (isControllableIn image) =
-    ap (λ (k : Classes). k .controllable) (classes (c .before .before .before)) ∙ rw done in
-    let causable : c .before .before .before .classes-in .result .causable ≡ setOf (eventsIn image) (isCausableIn image) =
-    ap (λ (k : Classes). k .causable) (classes (c .before .before .before)) ∙ rw done in
-    c .relations-in .ensures
-    ∙ rw (events (c .before .before .before .before .before .before .before .before .before), relations (c .before .before .before .before .before .before .before .before .before), controllable, causable)
-    (ends-relation _ (c .before .before .before .before .before .before .before .before .before .before .if1 .left) (clear (c .before .before .before .before .before .before .before .before)) (fit (c .before .before .before .before .before .before)) (few (c .before .before .before .before .before)) (exact (c .before .before .before .before)) done)
+    rw (c .relations-in .ensures, events (c .before .before .before .before .before .before .before .before .before), relations (c .before .before .before .before .before .before .before .before .before), controllable (c .before), causable (c .before))
+    (ends-relation _ (c .before .before .before .before .before .before .before .before .before .before .if1 .left) (clear (c .before .before .before .before .before .before .before .before)) (fit (c .before .before .before .before .before .before)) (few (c .before .before .before .before .before)) (exact (c .before .before .before .before)) (done (c .before)))
 
 pub read-table-spec : {M : Type 1} → statement M
 read-table-spec =

@@ -13,10 +13,9 @@ use Rattle.rules.specs.Judge.{eventsFit, recordNumber, markingNumber}
 use Rattle.rules.specs.Image.{classBit, classSpare, relationSpare}
 use Rattle.rules.specs.Laws.Tests.{not-false}
 use Rattle.rules.specs.Laws.Numbers.{if-done, both-done, first-each}
-use Rattle.rules.specs.Laws.Fields.{field-part}
+use Rattle.rules.specs.Laws.Fields.{field-part, first-part, last-part}
 use Rattle.rules.specs.Laws.Fit.{fit-few}
 use Rattle.image.specs.Parts.{isControllableIn, isCausableIn}
-use Rattle.image.specs.Laws.Words.{first-part, last-part}
 
 module _ (image : List ℕ) where
   -- controllable 1, causable 1, spare 6

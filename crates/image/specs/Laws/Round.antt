@@ -2,7 +2,7 @@
 use mathlib.Core.Path.{_≡_, refl, sym, ap, ap₂, _∙_}
 use mathlib.Core.Bool.{true, not}
 use mathlib.Core.List.{List, [], _++_, append-nil}
-use Prim.Native.Nat.{ℕ, zero, suc, _+_, _-_, _*_, _^_, _<_, _≤_}
+use Prim.Native.Nat.{ℕ, zero, suc, _+_, _-_, _*_, _<_, _≤_}
 use native.Mathlib.Nat.{mod-eq-of-lt, le-of-eq, zero-add}
 use native.Mathlib.Omega.{arith}
 use borrow.Author.Tests.{eq-eqb, eqb-true, not-false}
@@ -21,7 +21,7 @@ use Rattle.rules.specs.Laws.Counting.{length-places, places-at}
 use Rattle.rules.specs.Laws.Numbers.{if-done, both-done, first-each, first-done}
 use Rattle.rules.specs.Laws.Fields.{bytes-of-word, word-of-bytes}
 use Rattle.image.specs.Words.{wordOfRecord}
-use Rattle.image.specs.Laws.Words.{bit-lt, room, record-back, word-read}
+use Rattle.image.specs.Laws.Words.{room, word-fits, record-back, word-read}
 use Rattle.image.specs.Laws.Records.{image-word, images-length, images-byte}
 use Rattle.image.specs.Laws.Parts.{record-done}
 
@@ -102,10 +102,6 @@ module _ (events : ℕ) (image : List ℕ) where
           ap₂ (λ (a b : List ℕ). a ++ b) (part at (omega arith)) (parts (suc at) n (omega arith) ∙ ap (take (8 * n)) (sym rest))
           ∙ sym (take-add 8 (8 * n) (drop (8 * at) image))
           ∙ ap (λ (k : ℕ). take k (drop (8 * at) image)) (sym e)
-
--- a record that is judged 'done' fits its 8 bytes
-word-fits : (r : Record) → recordNumber r ≡ 0 → wordOfRecord r < 2 ^ 64
-word-fits r h = omega (arith, room r h, bit-lt (r .happened), bit-lt (r .included), bit-lt (r .pending), bit-lt (r .bounded))
 
 -- the image of a marking that is judged 'done' is read as its records
 module _ (m : Marking) (judged : markingNumber m ≡ 0) where

@@ -13,9 +13,8 @@ use Rattle.rules.specs.Holds.{emptyTable}
 use Rattle.rules.specs.Fields.{field}
 use Rattle.rules.specs.Judge.{eventsFit}
 use Rattle.rules.specs.Image.{eventsIn, relationsIn, headerSpare, tableLength, tableImageNumber, tableIn, readTable}
-use Rattle.rules.specs.Laws.Fields.{field-part}
+use Rattle.rules.specs.Laws.Fields.{field-part, first-part, last-part}
 use Rattle.image.specs.Parts.{classNumber, isControllableIn, isCausableIn, relationsRead}
-use Rattle.image.specs.Laws.Words.{first-part, last-part}
 
 abbrev pub refusedWith : ℕ → TableAnswer
 refusedWith number = record { number = number; table = emptyTable }

@@ -1,10 +1,10 @@
 -- The fields of a relation and of a record are parts of the one number that their bytes hold: the law of fields, cited at each width.
 -- Assumes nothing.
-use mathlib.Core.Path.{_≡_, refl, sym, ap, _∙_}
+use mathlib.Core.Path.{_≡_}
 use mathlib.Core.Bool.{Bool, true, false, cond}
 use mathlib.Core.List.{List}
-use Prim.Native.Nat.{ℕ, zero, suc, _+_, _/_, _%_, _^_, _<_}
-use native.Mathlib.Nat.{add-zero, zero-add, div-one, lt-of-le-of-lt}
+use Prim.Native.Nat.{ℕ, _+_, _^_, _<_}
+use native.Mathlib.Nat.{lt-of-le-of-lt}
 use native.Mathlib.Omega.{arith}
 use lib.Dec.{eqb, leb}
 use borrow.Author.Tests.{leb-true}
@@ -15,23 +15,10 @@ use Rattle.rules.specs.Judge.{recordFits, recordNumber}
 use Rattle.rules.specs.Image.{relationAt, recordAt}
 use Rattle.rules.specs.Laws.Tests.{both, not-false}
 use Rattle.rules.specs.Laws.Numbers.{if-done}
-use Rattle.rules.specs.Laws.Fields.{field-lt, field-join, field-part, field-ends}
+use Rattle.rules.specs.Laws.Fields.{field-lt, field-join, field-part, first-part, last-part, field-ends, flag-bit, bit-flag, bit-lt}
 use Rattle.image.specs.Words.{relationOfWord, recordOfWord, wordOfRecord}
 
 module _ (image : List ℕ) (p : ℕ) where
-  -- with nothing before it, and with nothing behind it
-  pub first-part : (w k : ℕ) → field image p w ≡ field image p (w + k) / 2 ^ k % 2 ^ w
-  first-part w k =
-      ap (λ (q : ℕ). field image q w) (sym (add-zero p))
-      ∙ field-part image p 0 w k
-      ∙ ap (λ (n : ℕ). field image p n / 2 ^ k % 2 ^ w) (zero-add (w + k))
-
-  pub last-part : (u w : ℕ) → field image (p + u) w ≡ field image p (u + w) % 2 ^ w
-  last-part u w =
-      field-part image p u w 0
-      ∙ ap (λ (n : ℕ). field image p (u + n) / 1 % 2 ^ w) (add-zero w)
-      ∙ ap (λ (n : ℕ). n % 2 ^ w) (div-one (field image p (u + w)))
-
   pub relation-parts : relationOfWord (field image p 48) ≡ relationAt image p
   unfolding relationAt
   relation-parts =
@@ -40,7 +27,7 @@ module _ (image : List ℕ) (p : ℕ) where
         field-part image p 9 6 33,
         field-part image p 15 1 32,
         field-part image p 16 30 2,
-        first-part 3 45,
+        first-part image p 3 45,
       )
 
   pub record-parts : recordOfWord (field image p 64) ≡ recordAt image p
@@ -51,23 +38,9 @@ module _ (image : List ℕ) (p : ℕ) where
         field-part image p 31 1 32,
         field-part image p 32 1 31,
         field-part image p 33 1 30,
-        last-part 34 30,
-        first-part 1 63,
+        last-part image p 34 30,
+        first-part image p 1 63,
       )
-
--- a digit and its flag
-flag-bit : (x : ℕ) → x < 2 → bit (eqb x 1) ≡ x
-flag-bit zero h = refl
-flag-bit (suc zero) h = refl
-flag-bit (suc (suc x)) h = absurd (omega arith)
-
-pub bit-flag : (b : Bool) → eqb (bit b) 1 ≡ b
-bit-flag true = refl
-bit-flag false = refl
-
-pub bit-lt : (b : Bool) → bit b < 2
-bit-lt true = omega arith
-bit-lt false = omega arith
 
 -- the number of the record that is read is the number that its bytes hold
 pub word-read : (image : List ℕ) (p : ℕ) → wordOfRecord (recordAt image p) ≡ field image p 64
@@ -86,7 +59,7 @@ word-read image p =
       field-join image p 1 30,
     )
 
--- what a record that is judged 'done' has room in
+-- a record that is judged 'done' has its numbers in 30 bits, and the whole in 64
 pub room : (r : Record) → recordNumber r ≡ 0 → (r .age < 2 ^ 30) × (r .deadline < 2 ^ 30)
 unfolding recordFits
 room r h =
@@ -95,6 +68,9 @@ room r h =
     let p = both (leb (r .age) (cond (r .happened) limit 0)) _ fits in
     let q = both (cond (r .pending) true _) (leb (r .deadline) (cond (r .bounded) limit 0)) (p .1) in
     (lt-of-le-of-lt (leb-true _ _ (p .0)) (most (r .happened)), lt-of-le-of-lt (leb-true _ _ (q .1)) (most (r .bounded)))
+
+pub word-fits : (r : Record) → recordNumber r ≡ 0 → wordOfRecord r < 2 ^ 64
+word-fits r h = omega (arith, room r h, bit-lt (r .happened), bit-lt (r .included), bit-lt (r .pending), bit-lt (r .bounded))
 
 -- bytes that hold the number of a record with room are read as that record
 pub record-back : (image : List ℕ) (p : ℕ) (r : Record) → (r .age < 2 ^ 30) × (r .deadline < 2 ^ 30)

@@ -14,7 +14,8 @@ use Rattle.rules.specs.Enabled.{isEnabled}
 use Rattle.rules.specs.Effect.{effect}
 use Rattle.rules.specs.Ask.{requestNumber, reportNumber, request, report}
 use Rattle.rules.specs.Laws.Tests.{not-false}
-use Rattle.rules.specs.Laws.Numbers.{if-done, both-done, else-done, else-refused, else-assoc}
+use Rattle.rules.specs.Laws.Told.{stands}
+use Rattle.rules.specs.Laws.Numbers.{if-done, both-done, else-done, else-assoc}
 
 -- an event is of the other class: a request wants a controllable one, a report an uncontrollable
 abbrev pub other : Bool → Table → ℕ → Bool
@@ -65,7 +66,7 @@ module _ (wanted : Bool) (t : Table) (m : Marking) (e : ℕ) where
   ask-other h k = rw (ask-judged h, other-same (isControllable t e) wanted, k)
 
   pub ask-refused : {n : ℕ} → n ≡ (judged t m else eventNumber t e) → (n ≡ 0 → ⊥) → n ≡ (judged t m else askNumber wanted t m e)
-  ask-refused p h = p ∙ sym (joined ∙ else-refused _ (λ z. h (p ∙ z)))
+  ask-refused p h = stands _ p h ∙ sym joined
 
 -- what is granted was enabled
 pub asked-granted : (wanted : Bool) (t : Table) (m : Marking) (e : ℕ) → asked wanted t m e .number ≡ 0 → isEnabled t m e ≡ true

@@ -2,26 +2,27 @@
 -- of it; whole bytes are the bytes as a number, high byte first; what is written is read back, and what is read is written again.
 -- Assumes nothing.
 use mathlib.Core.Path.{_≡_, refl, sym, ap, ap₂, _∙_}
+use mathlib.Core.Bool.{Bool, true, false}
 use mathlib.Core.List.{List}
 use Prim.Native.Nat.{ℕ, zero, suc, _+_, _-_, _*_, _/_, _%_, _^_, _<_, _≤_}
-use native.Mathlib.Nat.{mod-lt, pow-suc, add-suc, add-zero, add-assoc, mul-assoc}
+use native.Mathlib.Nat.{mod-lt, pow-suc, add-suc, add-zero, zero-add, add-assoc, mul-assoc, div-one}
 use native.Mathlib.Numerals.{add-one}
 use native.Mathlib.Omega.{arith}
-use lib.Dec.{lit<}
+use lib.Dec.{lit<, eqb}
 use lib.Pow.{pow-add, low, high, shr-shr, mod-pow-add}
 use lib.ListN.{length, getD, take, drop, length-drop}
 use lib.Seq.{getD-take, getD-drop, ext-getD, length-take-le}
-use Rattle.rules.specs.Fields.{bitAt, field, bytesOf, _▸_, _∶_}
+use Rattle.rules.specs.Fields.{bitAt, field, bit, bytesOf, _▸_, _∶_}
 
 module _ (image : List ℕ) where
-  bit-lt : (p : ℕ) → bitAt image p < 2
-  bit-lt p = mod-lt (getD image (p / 8) 0 / 2 ^ (7 - p % 8)) (lit< tt)
+  digit-lt : (p : ℕ) → bitAt image p < 2
+  digit-lt p = mod-lt (getD image (p / 8) 0 / 2 ^ (7 - p % 8)) (lit< tt)
 
   -- a field of w bits is below 2 ^ w
   pub field-lt : (p w : ℕ) → field image p w < 2 ^ w
   unfolding field
   field-lt p zero = lit< tt
-  field-lt p (suc w) = omega (arith, pow-suc 2 w, field-lt p w, bit-lt (p + w))
+  field-lt p (suc w) = omega (arith, pow-suc 2 w, field-lt p w, digit-lt (p + w))
 
   -- two neighbours are one field
   pub field-join : (p u w : ℕ) → field image p (u + w) ≡ field image p u * 2 ^ w + field image (p + u) w
@@ -39,6 +40,19 @@ module _ (image : List ℕ) where
       (ap (λ (x : ℕ). x / 2 ^ k % 2 ^ w) parts
       ∙ ap (λ (x : ℕ). x % 2 ^ w) (high (field image p (u + w)) k (field-lt (p + (u + w)) k) ∙ field-join p u w)
       ∙ low (field image p u) w (field-lt (p + u) w))
+
+  -- with nothing before it, and with nothing behind it
+  pub first-part : (p w k : ℕ) → field image p w ≡ field image p (w + k) / 2 ^ k % 2 ^ w
+  first-part p w k =
+      ap (λ (q : ℕ). field image q w) (sym (add-zero p))
+      ∙ field-part p 0 w k
+      ∙ ap (λ (n : ℕ). field image p n / 2 ^ k % 2 ^ w) (zero-add (w + k))
+
+  pub last-part : (p u w : ℕ) → field image (p + u) w ≡ field image p (u + w) % 2 ^ w
+  last-part p u w =
+      field-part p u w 0
+      ∙ ap (λ (n : ℕ). field image p (u + n) / 1 % 2 ^ w) (add-zero w)
+      ∙ ap (λ (n : ℕ). n % 2 ^ w) (div-one (field image p (u + w)))
 
   -- where a field is what was before, with v behind it, its parts are those
   pub field-ends : (p u w before v : ℕ) → v < 2 ^ w → field image p (u + w) ≡ before ▸ w ∶ v
@@ -145,3 +159,17 @@ word-of-bytes image at n v same =
         ∙ ap₂ (λ (a b : ℕ). a * 256 + b) above byte
         ∙ sym (mod-pow-add x (8 * m) 8)
         ∙ ap (λ (k : ℕ). x % 2 ^ k) (sym f)
+
+-- a digit and its flag
+pub flag-bit : (x : ℕ) → x < 2 → bit (eqb x 1) ≡ x
+flag-bit zero h = refl
+flag-bit (suc zero) h = refl
+flag-bit (suc (suc x)) h = absurd (omega arith)
+
+pub bit-flag : (b : Bool) → eqb (bit b) 1 ≡ b
+bit-flag true = refl
+bit-flag false = refl
+
+pub bit-lt : (b : Bool) → bit b < 2
+bit-lt true = omega arith
+bit-lt false = omega arith

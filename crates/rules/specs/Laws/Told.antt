@@ -1,6 +1,6 @@
 -- What a call whose numbers so far are 'done' has been told: counts, events and relations that exist, ages and times within the limit.
 -- Assumes nothing.
-use mathlib.Core.Path.{_≡_}
+use mathlib.Core.Path.{_≡_, _∙_, sym}
 use mathlib.Core.Bool.{Bool, true, false, not, _&&_, cond}
 use Prim.Native.Nat.{ℕ, _<_, _≤_}
 use native.Mathlib.Omega.{arith}
@@ -14,8 +14,12 @@ use Rattle.rules.specs.Numbers.{_else_}
 use Rattle.rules.specs.Holds.{limit, isCondition, isResponse, relationOf, recordOf}
 use Rattle.rules.specs.Judge.{judged, timeFits, recordFits, eventNumber}
 use Rattle.rules.specs.Laws.Tests.{both, not-false}
-use Rattle.rules.specs.Laws.Numbers.{if-done, both-done}
-use Rattle.rules.specs.Laws.Judge.{Good, good}
+use Rattle.rules.specs.Laws.Numbers.{if-done, both-done, else-refused}
+use Rattle.rules.specs.Laws.Judge.{GoodTable, Good, good}
+
+-- a number that is not 'done' stands, whatever would be asked next
+pub stands : {n a : ℕ} (next : ℕ) → n ≡ a → (n ≡ 0 → ⊥) → n ≡ (a else next)
+stands next p h = p ∙ sym (else-refused next (λ z. h (p ∙ z)))
 
 -- the marking has at most 64 events
 pub few-marked : {t : Table} {m : Marking} → Good t m → m .events ≤ 64
@@ -52,12 +56,13 @@ time-fits k h = go (isCondition k) (isResponse k) (k .bounded) h
     go false true false h = omega (arith, eqb-true (k .time) 0 h)
     go false false bounded h = omega (arith, eqb-true (k .time) 0 (both (not bounded) (eqb (k .time) 0) h .1))
 
--- a relation that is in use: its place, its right event, and the ages and times that a margin is made of
-module _ {t : Table} {m : Marking} (g : Good t m) (k : ℕ) (used : k < t .count) where
-  pub right-told : relationOf t k .right < 64
-  right-told = omega (arith, g .table-good .relations-good k used .right-exists, g .table-good .few-events)
+-- the right event of a relation that is in use
+pub right-told : {t : Table} → GoodTable t → (k : ℕ) → k < t .count → relationOf t k .right < 64
+right-told g k used = omega (arith, g .relations-good k used .right-exists, g .few-events)
 
-  pub margin-told : (recordOf m (relationOf t k .right) .age ≤ limit) × (relationOf t k .time ≤ limit)
-  margin-told =
-      let good-here = g .table-good .relations-good k used in
-      (age-fits _ (g .marking-good .records-fit _ (good-here .right-exists)), time-fits _ (good-here .fits))
+-- the age and the time that its margin is made of
+pub margin-told : {t : Table} {m : Marking} → Good t m → (k : ℕ) → k < t .count
+    → (recordOf m (relationOf t k .right) .age ≤ limit) × (relationOf t k .time ≤ limit)
+margin-told g k used =
+    let here = g .table-good .relations-good k used in
+    (age-fits _ (g .marking-good .records-fit _ (here .right-exists)), time-fits _ (here .fits))

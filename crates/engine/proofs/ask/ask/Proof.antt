@@ -9,19 +9,19 @@ use Rattle.rules.specs.Laws.Ask.{askNumber, asked}
 use Rattle.engine.proofs.ask.ask.Statement.{statement}
 use Rattle.engine.proofs.ask.ask.Tie as tie
 
-number-of-requires : tie.Need-number-of-requires
-number-of-requires c κs = search needs
+ask-number-requires : tie.Need-ask-number-requires
+ask-number-requires c κs = search needs
 
 effect-requires : tie.Need-effect-requires
-effect-requires c κs = good _ _ (both-done (judged _ _) (askNumber _ _ _ _) (sym (c .before .number-of .ensures) ∙ c .if1 .taken) .0)
+effect-requires c κs = good _ _ (both-done (judged _ _) (askNumber _ _ _ _) (sym (c .before .ask-number .ensures) ∙ c .if1 .taken) .0)
 
 returns : tie.Need-returns
 unfolding asked
-returns c = rw (sym (c .before .before .number-of .ensures) ∙ c .before .if1 .taken, c .effect .ensures)
+returns c = rw (sym (c .before .before .ask-number .ensures) ∙ c .before .if1 .taken, c .effect .ensures)
 
 returns-2 : tie.Need-returns-2
 unfolding asked
-returns-2 c = rw (← c .before .number-of .ensures, ne-eqb _ _ (c .if1 .left))
+returns-2 c = rw (← c .before .ask-number .ensures, ne-eqb _ _ (c .if1 .left))
 
 pub ask-spec : {M : Type 1} → statement M
-ask-spec = tie.close (tie.spec number-of-requires effect-requires returns returns-2)
+ask-spec = tie.close (tie.spec ask-number-requires effect-requires returns returns-2)

@@ -6,6 +6,7 @@ use borrow.Author.Needs.{needs}
 use Rattle.rules.specs.Counting.{lowest}
 use Rattle.rules.specs.Holds.{relationOf}
 use Rattle.rules.specs.Enabled.{blocks}
+use Rattle.rules.specs.Laws.Told.{right-told}
 use Rattle.rules.specs.Laws.Counting.{lowest-zero, lowest-more, lowest-here}
 use Rattle.engine.proofs.blocking.first_blocking.Statement.{statement}
 use Rattle.engine.proofs.blocking.first_blocking.Tie as tie
@@ -29,7 +30,7 @@ cast-x : tie.Need-cast-x Inv-loop μ-loop
 cast-x c = omega arith
 
 right-fits : (c : tie.Else1 Inv-loop μ-loop) → relationOf (c .before .before .args .t1) (c .before .loop .i) .right < 64
-right-fits c = let g = c .before .before .pre .table-good in omega (arith, g .relations-good (c .before .loop .i) (omega arith) .right-exists)
+right-fits c = right-told (c .before .before .pre .table-good) (c .before .loop .i) (omega arith)
 
 mul-r : tie.Need-mul-r Inv-loop μ-loop
 mul-r c = omega (arith, right-fits (c .before .before))
@@ -37,8 +38,8 @@ mul-r c = omega (arith, right-fits (c .before .before))
 element-copy-out-r : tie.Need-element-copy-out-r Inv-loop μ-loop
 element-copy-out-r c = right-fits (c .before .before)
 
-stopping-event-requires : tie.Need-stopping-event-requires Inv-loop μ-loop
-stopping-event-requires c κs = tt
+stops-event-requires : tie.Need-stops-event-requires Inv-loop μ-loop
+stops-event-requires c κs = tt
 
 add-i : tie.Need-add-i Inv-loop μ-loop
 add-i c = omega arith
@@ -50,7 +51,7 @@ loop-again : tie.Need-loop-again Inv-loop μ-loop
 unfolding blocks
 loop-again c =
     let h = c .before .before .before .before .before .before in
-    (omega arith, search needs, lowest-more _ (h .loop .i) (h .loop .inv .2) (sym (c .before .stopping-event .ensures) ∙ c .if2 .left))
+    (omega arith, search needs, lowest-more _ (h .loop .i) (h .loop .inv .2) (sym (c .before .stops-event .ensures) ∙ c .if2 .left))
 
 returns : tie.Need-returns Inv-loop μ-loop
 returns c =
@@ -61,7 +62,7 @@ returns-2 : tie.Need-returns-2 Inv-loop μ-loop
 unfolding blocks
 returns-2 c =
     let h = c .before .before .before .before .before .before in
-    sym (lowest-here _ (h .loop .i) _ (omega arith) (h .loop .inv .2) (sym (c .before .stopping-event .ensures) ∙ c .if2 .taken))
+    sym (lowest-here _ (h .loop .i) _ (omega arith) (h .loop .inv .2) (sym (c .before .stops-event .ensures) ∙ c .if2 .taken))
 
 pub first-blocking-spec : {M : Type 1} → statement M
 first-blocking-spec =
@@ -75,7 +76,7 @@ first-blocking-spec =
     cast-x
     mul-r
     element-copy-out-r
-    stopping-event-requires
+    stops-event-requires
     add-i
     loop-less
     loop-again

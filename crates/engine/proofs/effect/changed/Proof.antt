@@ -1,19 +1,20 @@
 -- First e itself, then the inclusion, then the deadline. Assumes nothing.
 use borrow.Author.Needs.{needs}
+use Rattle.engine.specs.Laws.Reach.{in-order}
 use Rattle.engine.proofs.effect.changed.Statement.{statement}
 use Rattle.engine.proofs.effect.changed.Tie as tie
 
-executing-requires : tie.Need-executing-requires
-executing-requires c κs = search needs
+executed-if-requires : tie.Need-executed-if-requires
+executed-if-requires c κs = search needs
 
-including-requires : tie.Need-including-requires
-including-requires c κs = search needs
+with-inclusion-requires : tie.Need-with-inclusion-requires
+with-inclusion-requires c κs = search needs
 
-asking-requires : tie.Need-asking-requires
-asking-requires c κs = search needs
+responded-requires : tie.Need-responded-requires
+responded-requires c κs = search needs
 
 returns : tie.Need-returns
-returns c = cc
+returns c = search in-order
 
 pub changed-spec : {M : Type 1} → statement M
-changed-spec = tie.close (tie.spec executing-requires including-requires asking-requires returns)
+changed-spec = tie.close (tie.spec executed-if-requires with-inclusion-requires responded-requires returns)

@@ -19,8 +19,8 @@ Inv-loop e reach n records₀ x₀ records x = (x ≤ n) × (records ≡ eachBel
 abbrev μ-loop : tie.MeasureT-loop
 μ-loop e reach n records₀ x₀ records x = n - x
 
-reaches-requires : tie.Need-reaches-requires Inv-loop μ-loop
-reaches-requires c κs = c .pre .table-good
+reached-requires : tie.Need-reached-requires Inv-loop μ-loop
+reached-requires c κs = c .pre .table-good
 
 loop-holds : tie.Need-loop-holds Inv-loop μ-loop
 loop-holds c = (search needs, sym (each-below-none _ _))
@@ -57,7 +57,7 @@ loop-again c =
     let h = c .before .before .before .before in
     let s = h .before .before .before in
     let old = s .args .m .records in
-    let f = changing (h .before .before .reaches .result) (s .args .e) in
+    let f = changing (h .before .before .reached .result) (s .args .e) in
     let x = h .loop .x in
     let sized : length old ≡ 64 = simp length-map at (s .good .1 .0 .1 .1 .0 .1 .0 .1) in
     let fits : x < length old = omega arith in
@@ -72,7 +72,7 @@ returns c =
     let e : h .loop .x ≡ s .args .m .events = omega arith in
     ap (withRecords (s .args .m))
     (rw e at (h .loop .inv .1)
-    ∙ each-below-same (s .args .m .events) _ _ _ (λ x r b. changing-effect _ _ (h .before .before .reaches .result) (h .before .before .reaches .ensures) x r (omega arith)))
+    ∙ each-below-same (s .args .m .events) _ _ _ (λ x r b. changing-effect _ _ (h .before .before .reached .result) (h .before .before .reached .ensures) x r (omega arith)))
 
 pub effect-spec : {M : Type 1} → statement M
 effect-spec =
@@ -80,7 +80,7 @@ effect-spec =
     (tie.spec
     Inv-loop
     μ-loop
-    reaches-requires
+    reached-requires
     loop-holds
     mul-r
     array-copy-out-r

@@ -1,13 +1,10 @@
 -- The state after the last event taken, one tick later. Assumes nothing.
-use mathlib.Core.Path.{_∙_, ap}
-use Prim.Native.Nat.{ℕ}
 use borrow.Author.Needs.{needs}
-use Rattle.rules.specs.Guard.{orderOf}
 use Rattle.rules.specs.Laws.Judge.{Good}
 use Rattle.rules.specs.Laws.Told.{few-marked}
 use Rattle.rules.specs.Laws.Needed.{needed-fits}
-use Rattle.engine.specs.Taking.{nothing, carriedOn, afterTick}
-use Rattle.engine.specs.Laws.Taking.{carried-sound, tick-on, carried-guarded}
+use Rattle.engine.specs.Taking.{nothing}
+use Rattle.engine.specs.Laws.Taking.{carried-sound, guarded-is}
 use Rattle.engine.proofs.guard.guarded.Statement.{statement}
 use Rattle.engine.proofs.guard.guarded.Tie as tie
 
@@ -32,13 +29,7 @@ time-requires c κs =
 returns : tie.Need-returns
 returns c =
     let s = c .before .before .before .before .before .before in
-    let t = s .args .t in
-    let start = nothing 0 0 0 (s .args .m) in
-    tick-on (c .before .before .before .take-all .result) (c .time .ensures)
-    ∙ ap afterTick
-    (c .before .before .before .take-all .ensures
-    ∙ ap (λ (untaken : ℕ). carriedOn t start (orderOf t (t .events) untaken)) (c .before .before .before .before .needed .ensures))
-    ∙ carried-guarded t (s .args .m) (s .pre .table-good .few-events)
+    guarded-is _ _ (s .pre .table-good .few-events) (c .before .before .before .before .needed .ensures) _ (c .before .before .before .take-all .ensures) (c .time .ensures)
 
 pub guarded-spec : {M : Type 1} → statement M
 guarded-spec = tie.close (tie.spec inhibitors-requires needed-requires take-all-requires time-requires returns)

@@ -2,7 +2,7 @@
 use mathlib.Core.Path.{sym, _∙_}
 use borrow.Author.Needs.{needs}
 use Rattle.rules.specs.Judge.{judged}
-use Rattle.rules.specs.Laws.Numbers.{else-refused}
+use Rattle.rules.specs.Laws.Told.{stands}
 use Rattle.engine.proofs.judge.judge.Statement.{statement}
 use Rattle.engine.proofs.judge.judge.Tie as tie
 
@@ -18,7 +18,7 @@ returns c = rw (sym (c .before .before .judge-table .ensures) ∙ c .before .if1
 
 returns-2 : tie.Need-returns-2
 unfolding judged
-returns-2 c = let told = c .before .judge-table .ensures in told ∙ sym (else-refused _ (λ z. c .if1 .left (told ∙ z)))
+returns-2 c = stands _ (c .before .judge-table .ensures) (c .if1 .left)
 
 pub judge-spec : {M : Type 1} → statement M
 judge-spec = tie.close (tie.spec judge-table-requires judge-marking-requires returns returns-2)

@@ -8,8 +8,8 @@ use Rattle.rules.specs.EventSet.{setOf}
 use Rattle.rules.specs.Holds.{relationOf}
 use Rattle.rules.specs.Closure.{busy, followed, closure}
 use Rattle.rules.specs.Laws.EventSet.{set-lt-power}
-use Rattle.engine.specs.Rows.{joined}
-use Rattle.engine.specs.Laws.Followed.{everyEvent, joined-fully, follows-all}
+use Rattle.engine.specs.Rows.{everyEvent, joined}
+use Rattle.engine.specs.Laws.Followed.{joined-fully, follows-all}
 use Rattle.engine.specs.Laws.Reasons.{busy-word}
 use Rattle.engine.proofs.reasons.closure.Statement.{statement}
 use Rattle.engine.proofs.reasons.closure.Tie as tie

@@ -26,8 +26,8 @@ mul-r c = omega arith
 array-copy-out-r : tie.Need-array-copy-out-r Inv-loop μ-loop
 array-copy-out-r c = omega arith
 
-aged-requires : tie.Need-aged-requires Inv-loop μ-loop
-aged-requires c κs = tt
+later-requires : tie.Need-later-requires Inv-loop μ-loop
+later-requires c κs = tt
 
 mul-records : tie.Need-mul-records Inv-loop μ-loop
 mul-records c = omega arith
@@ -49,7 +49,7 @@ loop-again c =
     let sized : length old ≡ 64 = simp length-map at (h .before .before .good .0 .1 .1 .0 .1 .0 .1) in
     let fits : i < length old = omega arith in
     let same : getD (h .loop .records) i emptyRecord ≡ getD old i emptyRecord = rw (h .loop .inv .1) (each-below-kept i (λ x. later) old i emptyRecord fits (omega arith)) in
-    (omega arith, rw (c .aged .ensures, same, h .loop .inv .1) (each-below-more (λ x. later) old i emptyRecord fits))
+    (omega arith, rw (c .later .ensures, same, h .loop .inv .1) (each-below-more (λ x. later) old i emptyRecord fits))
 
 returns : tie.Need-returns Inv-loop μ-loop
 unfolding time
@@ -66,7 +66,7 @@ time-spec =
     loop-holds
     mul-r
     array-copy-out-r
-    aged-requires
+    later-requires
     mul-records
     array-set-from-records
     add-i

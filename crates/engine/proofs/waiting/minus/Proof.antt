@@ -5,7 +5,8 @@ use native.Mathlib.Omega.{arith}
 use borrow.Author.Needs.{needs}
 use mir.Syntax.{w32}
 use mir.Facts.{toZ-pos, toZ-ofZ}
-use Rattle.rules.specs.Laws.Margin.{size-minus}
+use Rattle.rules.specs.Holds.{limit}
+use Rattle.rules.specs.Laws.Margin.{minus-range}
 use Rattle.engine.proofs.waiting.minus.Statement.{statement}
 use Rattle.engine.proofs.waiting.minus.Tie as tie
 
@@ -21,7 +22,7 @@ sub-result c =
     let t = c .args .time in
     let ha : a < 2 ^ 31 = omega arith in
     let ht : t < 2 ^ 31 = omega arith in
-    record { sfits = rw (toZ-pos w32 {n = a} ha, toZ-pos w32 {n = t} ht) (omega (arith, size-minus a t)) }
+    record { sfits = rw (toZ-pos w32 {n = a} ha, toZ-pos w32 {n = t} ht) (omega (arith, minus-range limit a t (c .pre .0) (c .pre .1))) }
 
 returns : tie.Need-returns
 returns c =

@@ -2,14 +2,15 @@
 -- number on the way is no larger. Assumes nothing.
 use mathlib.Core.Path.{_≡_, refl}
 use mathlib.Core.Bool.{Bool, true, false}
-use Prim.Native.Nat.{_<_, _^_, _+_, _*_}
+use Prim.Native.Nat.{ℕ, _<_, _^_, _+_, _*_}
 use native.Mathlib.Omega.{arith}
 use borrow.Author.Needs.{needs}
 use mir.Val.{boolByte}
 use Rattle.rules.specs.declared.Record.{Record}
 use Rattle.rules.specs.Fields.{bit}
 use Rattle.rules.specs.Judge.{recordNumber}
-use Rattle.image.specs.Laws.Words.{bit-lt, room}
+use Rattle.image.specs.Words.{wordOfRecord}
+use Rattle.image.specs.Laws.Words.{word-fits}
 use Rattle.image.proofs.marking.word_of.Statement.{statement}
 use Rattle.image.proofs.marking.word_of.Tie as tie
 
@@ -18,17 +19,19 @@ flag : (b : Bool) → boolByte b ≡ bit b
 flag true = refl
 flag false = refl
 
-flag-lt : (b : Bool) → boolByte b < 2
-flag-lt b = rw (flag b) (bit-lt b)
-
-whole : (r : Record) → recordNumber r ≡ 0
-    → ((((boolByte (r .happened) * 1073741824 + r .age) * 2 + boolByte (r .included)) * 2 + boolByte (r .pending)) * 2
+-- the number as the machine has it
+abbrev machineWord : Record → ℕ
+machineWord r =
+    ((((boolByte (r .happened) * 1073741824 + r .age) * 2 + boolByte (r .included)) * 2 + boolByte (r .pending)) * 2
     + boolByte (r .bounded))
     * 1073741824
     + r .deadline
-    < 2 ^ 64
-whole r h =
-    omega (arith, room r h, flag-lt (r .happened), flag-lt (r .included), flag-lt (r .pending), flag-lt (r .bounded))
+
+same : (r : Record) → machineWord r ≡ wordOfRecord r
+same r = rw (flag (r .happened), flag (r .included), flag (r .pending), flag (r .bounded))
+
+whole : (r : Record) → recordNumber r ≡ 0 → machineWord r < 2 ^ 64
+whole r h = rw (same r) (word-fits r h)
 
 cast-w : tie.Need-cast-w
 cast-w c = search needs
@@ -79,9 +82,7 @@ add-result : tie.Need-add-result
 add-result c = record { fits = whole (c .before .before .before .before .before .before .args .r) (c .before .before .before .before .before .before .pre) }
 
 returns : tie.Need-returns
-returns c =
-    let r = c .before .before .before .before .before .before .args .r in
-    rw (flag (r .happened), flag (r .included), flag (r .pending), flag (r .bounded))
+returns c = same (c .before .before .before .before .before .before .args .r)
 
 pub word-of-spec : {M : Type 1} → statement M
 word-of-spec =

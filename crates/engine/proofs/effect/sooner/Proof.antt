@@ -1,8 +1,8 @@
 -- The tests of `sooner` in its order. Assumes nothing.
 use borrow.Author.Tests.{lt-ltb, le-ltb}
 use Rattle.engine.specs.Reach.{sooner}
-use Rattle.engine.proofs.effect.responding.Statement.{statement}
-use Rattle.engine.proofs.effect.responding.Tie as tie
+use Rattle.engine.proofs.effect.sooner.Statement.{statement}
+use Rattle.engine.proofs.effect.sooner.Tie as tie
 
 returns : tie.Need-returns
 unfolding sooner
@@ -20,5 +20,5 @@ returns-4 : tie.Need-returns-4
 unfolding sooner
 returns-4 c = simp (c .if1 .left)
 
-pub responding-spec : {M : Type 1} → statement M
-responding-spec = tie.close (tie.spec returns returns-2 returns-3 returns-4)
+pub sooner-spec : {M : Type 1} → statement M
+sooner-spec = tie.close (tie.spec returns returns-2 returns-3 returns-4)

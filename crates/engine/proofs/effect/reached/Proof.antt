@@ -7,11 +7,11 @@ use native.Mathlib.Omega.{arith}
 use borrow.Author.Needs.{needs}
 use lib.ListN.{length, length-set, getD-replicate}
 use Rattle.rules.specs.Holds.{relationOf}
-use Rattle.rules.specs.Laws.Judge.{GoodRelation}
+use Rattle.rules.specs.Laws.Told.{right-told}
 use Rattle.engine.specs.Reach.{noReach}
 use Rattle.engine.specs.Laws.Reach.{Gathered, reached-none, gathered-more, gathered-other}
-use Rattle.engine.proofs.effect.reaches.Statement.{statement}
-use Rattle.engine.proofs.effect.reaches.Tie as tie
+use Rattle.engine.proofs.effect.reached.Statement.{statement}
+use Rattle.engine.proofs.effect.reached.Tie as tie
 
 abbrev Inv-loop : tie.InvT-loop
 Inv-loop e t out₀ count i₀ out i = (i ≤ count) × (count ≡ t .count) × (length out ≡ 64) × Gathered t e out i
@@ -34,11 +34,8 @@ cast-if1 c = omega arith
 cast-x : tie.Need-cast-x Inv-loop μ-loop
 cast-x c = omega arith
 
-good-here : (c : tie.In-loop Inv-loop μ-loop) → GoodRelation (c .before .before .args .t1 .events) (relationOf (c .before .before .args .t1) (c .before .loop .i))
-good-here c = c .before .before .pre .relations-good (c .before .loop .i) (omega arith)
-
 right-fits : (c : tie.In-loop Inv-loop μ-loop) → relationOf (c .before .before .args .t1) (c .before .loop .i) .right < 64
-right-fits c = omega (arith, good-here c .right-exists, c .before .before .pre .few-events)
+right-fits c = right-told (c .before .before .pre) (c .before .loop .i) (omega arith)
 
 mul-reach : tie.Need-mul-reach Inv-loop μ-loop
 mul-reach c = omega (arith, right-fits (c .before .before .before .before))
@@ -46,8 +43,8 @@ mul-reach c = omega (arith, right-fits (c .before .before .before .before))
 array-copy-out-reach : tie.Need-array-copy-out-reach Inv-loop μ-loop
 array-copy-out-reach c = right-fits (c .before .before .before .before)
 
-widened-requires : tie.Need-widened-requires Inv-loop μ-loop
-widened-requires c κs = tt
+wider-requires : tie.Need-wider-requires Inv-loop μ-loop
+wider-requires c κs = tt
 
 mul-out : tie.Need-mul-out Inv-loop μ-loop
 mul-out c = omega (arith, right-fits (c .before .before .before .before .before .before))
@@ -70,7 +67,7 @@ loop-again c =
       search needs,
       ⊎-elim (λ w. rw (w .4) (simp length-set (old .2))) (λ w. rw (w .1) (old .2)) (c .if1 .came),
       ⊎-elim
-          (λ w. rw (w .4, w .3 .ensures) (gathered-more _ _ (h .before .loop .out) i (old .2) (old .3) (w .0 .taken) (good-here h .fits)))
+          (λ w. rw (w .4, w .3 .ensures) (gathered-more _ _ (h .before .loop .out) i (old .2) (old .3) (w .0 .taken) (h .before .before .pre .relations-good i (omega arith) .fits)))
           (λ w. rw (w .1) (gathered-other _ _ (h .before .loop .out) i (old .3) (w .0 .left)))
           (c .if1 .came),
     )
@@ -80,8 +77,8 @@ returns c =
     let e : c .before .loop .i ≡ c .before .before .args .t1 .count = omega arith in
     rw e at (c .before .loop .inv .3)
 
-pub reaches-spec : {M : Type 1} → statement M
-reaches-spec =
+pub reached-spec : {M : Type 1} → statement M
+reached-spec =
     tie.close
     (tie.spec
     Inv-loop
@@ -93,7 +90,7 @@ reaches-spec =
     cast-x
     mul-reach
     array-copy-out-reach
-    widened-requires
+    wider-requires
     mul-out
     array-set-from-out
     add-i

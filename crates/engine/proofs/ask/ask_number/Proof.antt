@@ -7,8 +7,8 @@ use Rattle.rules.specs.Holds.{isControllable}
 use Rattle.rules.specs.Judge.{judged, eventNumber}
 use Rattle.rules.specs.Laws.Ask.{ask-granted, ask-held, ask-other, ask-refused}
 use Rattle.rules.specs.Laws.Told.{event-told}
-use Rattle.engine.proofs.ask.number_of.Statement.{statement}
-use Rattle.engine.proofs.ask.number_of.Tie as tie
+use Rattle.engine.proofs.ask.ask_number.Statement.{statement}
+use Rattle.engine.proofs.ask.ask_number.Tie as tie
 
 judge-event-requires : tie.Need-judge-event-requires
 judge-event-requires c κs = search needs
@@ -44,8 +44,8 @@ returns-3 c =
 returns-4 : tie.Need-returns-4
 returns-4 c = ask-refused _ _ _ _ (c .before .judge-event .ensures) (c .if1 .left)
 
-pub number-of-spec : {M : Type 1} → statement M
-number-of-spec =
+pub ask-number-spec : {M : Type 1} → statement M
+ask-number-spec =
     tie.close
     (tie.spec
     judge-event-requires

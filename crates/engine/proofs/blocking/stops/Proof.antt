@@ -2,8 +2,8 @@
 use borrow.Author.Tests.{ne-eqb}
 use Rattle.rules.specs.Enabled.{stops}
 use Rattle.rules.specs.Laws.Tests.{or-false}
-use Rattle.engine.proofs.blocking.stopping.Statement.{statement}
-use Rattle.engine.proofs.blocking.stopping.Tie as tie
+use Rattle.engine.proofs.blocking.stops.Statement.{statement}
+use Rattle.engine.proofs.blocking.stops.Tie as tie
 
 returns : tie.Need-returns
 unfolding stops
@@ -25,5 +25,5 @@ returns-5 : tie.Need-returns-5
 unfolding stops
 returns-5 c = simp (c .if1 .left)
 
-pub stopping-spec : {M : Type 1} → statement M
-stopping-spec = tie.close (tie.spec returns returns-2 returns-3 returns-4 returns-5)
+pub stops-spec : {M : Type 1} → statement M
+stops-spec = tie.close (tie.spec returns returns-2 returns-3 returns-4 returns-5)

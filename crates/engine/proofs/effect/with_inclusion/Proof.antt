@@ -1,7 +1,7 @@
 -- The tests of `withInclusionBy` in its order. Assumes nothing.
 use Rattle.engine.specs.Reach.{withInclusionBy}
-use Rattle.engine.proofs.effect.including.Statement.{statement}
-use Rattle.engine.proofs.effect.including.Tie as tie
+use Rattle.engine.proofs.effect.with_inclusion.Statement.{statement}
+use Rattle.engine.proofs.effect.with_inclusion.Tie as tie
 
 returns : tie.Need-returns
 unfolding withInclusionBy
@@ -15,5 +15,5 @@ returns-3 : tie.Need-returns-3
 unfolding withInclusionBy
 returns-3 c = rw (c .before .if1 .left, c .if2 .left)
 
-pub including-spec : {M : Type 1} → statement M
-including-spec = tie.close (tie.spec returns returns-2 returns-3)
+pub with-inclusion-spec : {M : Type 1} → statement M
+with-inclusion-spec = tie.close (tie.spec returns returns-2 returns-3)

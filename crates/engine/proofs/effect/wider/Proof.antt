@@ -2,15 +2,15 @@
 use borrow.Author.Tests.{eq-eqb, ne-eqb}
 use borrow.Author.Needs.{needs}
 use Rattle.engine.specs.Reach.{wider}
-use Rattle.engine.proofs.effect.widened.Statement.{statement}
-use Rattle.engine.proofs.effect.widened.Tie as tie
+use Rattle.engine.proofs.effect.wider.Statement.{statement}
+use Rattle.engine.proofs.effect.wider.Tie as tie
 
-responding-requires : tie.Need-responding-requires
-responding-requires c κs = search needs
+sooner-requires : tie.Need-sooner-requires
+sooner-requires c κs = search needs
 
 returns : tie.Need-returns
 unfolding wider
-returns c = simp (eq-eqb _ _ (c .before .if1 .taken)) (c .responding .ensures)
+returns c = simp (eq-eqb _ _ (c .before .if1 .taken)) (c .sooner .ensures)
 
 returns-2 : tie.Need-returns-2
 unfolding wider
@@ -24,5 +24,5 @@ returns-4 : tie.Need-returns-4
 unfolding wider
 returns-4 c = simp (ne-eqb _ _ (c .before .before .before .before .if1 .left), ne-eqb _ _ (c .before .before .if2 .left), ne-eqb _ _ (c .if3 .left))
 
-pub widened-spec : {M : Type 1} → statement M
-widened-spec = tie.close (tie.spec responding-requires returns returns-2 returns-3 returns-4)
+pub wider-spec : {M : Type 1} → statement M
+wider-spec = tie.close (tie.spec sooner-requires returns returns-2 returns-3 returns-4)
