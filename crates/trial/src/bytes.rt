@@ -78,6 +78,15 @@ pub fn put_number(out: &mut [u8], at: usize, n: u64)
     put_time(out, at + 4, (n / 4294967296) as u32);
 }
 
+// The u32 of the same 32 bits: two's complement.
+pub fn word_of(value: i32) -> u32 {
+    if value < 0 {
+        let below = (-1 - value) as u32;
+        return 4294967295 - below;
+    }
+    value as u32
+}
+
 pub fn put_bytes(out: &mut [u8], at: usize, s: &[u8])
     requires { ⌜ at ≤ 65536 ⌝ }
 {

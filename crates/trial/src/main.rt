@@ -1,9 +1,12 @@
 // The bench on which every public call meets the second implementation: it reads calls from standard input and writes each call's
 // whole answer. A call is its number (1 byte), the payload's length (2 bytes, little-endian) and the payload; an answer is its length
 // (2 bytes) and its bytes.
+mod answer;
 mod bytes;
 mod calls;
+mod engine_calls;
 mod frame;
+mod image_calls;
 mod marking;
 mod table;
 

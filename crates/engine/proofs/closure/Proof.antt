@@ -1,10 +1,15 @@
 -- Judged first, then the closure of the busy events. Assumes nothing.
-use mathlib.Core.Path.{_∙_, sym}
+use mathlib.Core.Path.{_≡_, _∙_, ap, sym}
+use Prim.Native.Nat.{ℕ}
 use borrow.Author.Tests.{ne-eqb}
-use Rattle.rules.specs.Closure.{closureAnswer}
+use Rattle.rules.specs.declared.SetAnswer.{SetAnswer}
+use Rattle.rules.specs.Closure.{closure, closureAnswer}
 use Rattle.rules.specs.Laws.Judge.{good}
 use Rattle.engine.proofs.closure.Statement.{statement}
 use Rattle.engine.proofs.closure.Tie as tie
+
+abbrev number-set : ℕ → ℕ → SetAnswer
+number-set number set = record { number = number; set = set }
 
 judge-requires : tie.Need-judge-requires
 judge-requires c κs = tt
@@ -17,7 +22,9 @@ closure-requires c κs = (good _ _ (sym (c .before .before .judge .ensures) ∙ 
 
 returns : tie.Need-returns
 unfolding closureAnswer
-returns c = rw (sym (c .before .before .before .judge .ensures) ∙ c .before .before .if1 .taken, c .closure .ensures)
+returns c =
+    let found : number-set 0 (c .closure .result) ≡ number-set 0 (closure _ _) = ap (number-set 0) (c .closure .ensures) in
+    rw (sym (c .before .before .before .judge .ensures) ∙ c .before .before .if1 .taken) found
 
 returns-2 : tie.Need-returns-2
 unfolding closureAnswer
