@@ -1,10 +1,9 @@
 -- The loop's invariant: below i no relation blocks. So the first that does, at i, is the lowest, and where none does the count is. Assumes nothing.
 use mathlib.Core.Path.{_≡_, _∙_, sym}
-use Prim.Native.Nat.{_≤_, _<_, _-_}
+use Prim.Native.Nat.{_≤_, _-_}
 use native.Mathlib.Omega.{arith}
 use borrow.Author.Needs.{needs}
 use Rattle.rules.specs.Counting.{lowest}
-use Rattle.rules.specs.Holds.{relationOf}
 use Rattle.rules.specs.Enabled.{blocks}
 use Rattle.rules.specs.Laws.Told.{right-told}
 use Rattle.rules.specs.Laws.Counting.{lowest-zero, lowest-more, lowest-here}
@@ -29,14 +28,11 @@ element-copy-out-k c = omega arith
 cast-x : tie.Need-cast-x Inv-loop μ-loop
 cast-x c = omega arith
 
-right-fits : (c : tie.Else1 Inv-loop μ-loop) → relationOf (c .before .before .args .t1) (c .before .loop .i) .right < 64
-right-fits c = right-told (c .before .before .pre .table-good) (c .before .loop .i) (omega arith)
-
 mul-r : tie.Need-mul-r Inv-loop μ-loop
-mul-r c = omega (arith, right-fits (c .before .before))
+mul-r c = omega arith
 
 element-copy-out-r : tie.Need-element-copy-out-r Inv-loop μ-loop
-element-copy-out-r c = right-fits (c .before .before)
+element-copy-out-r c = right-told (c .before .before .before .before .pre .table-good) _ (omega arith)
 
 stops-event-requires : tie.Need-stops-event-requires Inv-loop μ-loop
 stops-event-requires c κs = tt

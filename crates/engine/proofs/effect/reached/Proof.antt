@@ -2,11 +2,10 @@
 -- no other; any other relation changes none. Assumes nothing.
 use mathlib.Core.Path.{_≡_, refl, sym, _∙_}
 use mathlib.Core.Logic.{⊎-elim}
-use Prim.Native.Nat.{_≤_, _<_, _-_}
+use Prim.Native.Nat.{_≤_, _-_}
 use native.Mathlib.Omega.{arith}
 use borrow.Author.Needs.{needs}
 use lib.ListN.{length, length-set, getD-replicate}
-use Rattle.rules.specs.Holds.{relationOf}
 use Rattle.rules.specs.Laws.Told.{right-told}
 use Rattle.engine.specs.Reach.{noReach}
 use Rattle.engine.specs.Laws.Reach.{Gathered, reached-none, gathered-more, gathered-other}
@@ -34,23 +33,20 @@ cast-if1 c = omega arith
 cast-x : tie.Need-cast-x Inv-loop μ-loop
 cast-x c = omega arith
 
-right-fits : (c : tie.In-loop Inv-loop μ-loop) → relationOf (c .before .before .args .t1) (c .before .loop .i) .right < 64
-right-fits c = right-told (c .before .before .pre) (c .before .loop .i) (omega arith)
-
 mul-reach : tie.Need-mul-reach Inv-loop μ-loop
-mul-reach c = omega (arith, right-fits (c .before .before .before .before))
+mul-reach c = omega arith
 
 array-copy-out-reach : tie.Need-array-copy-out-reach Inv-loop μ-loop
-array-copy-out-reach c = right-fits (c .before .before .before .before)
+array-copy-out-reach c = right-told (c .before .before .before .before .before .before .pre) _ (omega arith)
 
 wider-requires : tie.Need-wider-requires Inv-loop μ-loop
 wider-requires c κs = tt
 
 mul-out : tie.Need-mul-out Inv-loop μ-loop
-mul-out c = omega (arith, right-fits (c .before .before .before .before .before .before))
+mul-out c = omega arith
 
 array-set-from-out : tie.Need-array-set-from-out Inv-loop μ-loop
-array-set-from-out c = right-fits (c .before .before .before .before .before .before)
+array-set-from-out c = right-told (c .before .before .before .before .before .before .before .before .pre) _ (omega arith)
 
 add-i : tie.Need-add-i Inv-loop μ-loop
 add-i c = omega arith
