@@ -231,15 +231,18 @@ pub fn run_bytes(t: Table, m: Marking, steps: &[u8], answers: &mut [u8]) -> Mark
     ensures answer { λ r. ⌜ r ≡ runBytes t m (now (steps .entry)) (length (now (answers .entry))) ⌝ }
     ensures answers { λ _. ⌜ now (answers .exit) ≡ runBytesAnswers t m (now (steps .entry)) (now (answers .entry)) ⌝ }
 {
-    let number = trace::bytes_number(t, m, steps.len(), answers.len());
-    if number == 0 {
+    let whole = trace::bytes_number(t, m, steps.len(), answers.len());
+    if whole == 0 {
         let after = trace::played(t, m, steps, answers);
         return MarkingAnswer {
             number: 0,
             marking: after,
         };
     }
-    MarkingAnswer { number, marking: m }
+    MarkingAnswer {
+        number: whole,
+        marking: m,
+    }
 }
 
 // The same of a lent list of steps.

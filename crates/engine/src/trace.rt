@@ -48,15 +48,18 @@ fn asked(t: Table, m: Marking, e: usize, controllable: bool) -> MarkingAnswer
     requires { ⌜ judged t m ≡ 0 ⌝ }
     ensures { λ r. ⌜ r ≡ record { number = askNumber controllable t m e; marking = done (askNumber controllable t m e) (effect t m e) m } ⌝ }
 {
-    let number = asked_number(t, m, e, controllable);
-    if number == 0 {
+    let refusal = asked_number(t, m, e, controllable);
+    if refusal == 0 {
         let after = effect(t, m, e);
         return MarkingAnswer {
             number: 0,
             marking: after,
         };
     }
-    MarkingAnswer { number, marking: m }
+    MarkingAnswer {
+        number: refusal,
+        marking: m,
+    }
 }
 
 // A plain tick: 11.

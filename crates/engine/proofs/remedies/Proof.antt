@@ -6,86 +6,67 @@ use Rattle.rules.specs.Laws.Remedy.{remedy-judged, remedy-first-long, remedy-se
 use borrow.Author.Needs.{needs}
 use Rattle.engine.proofs.remedies.Statement.{statement}
 use Rattle.engine.proofs.remedies.Tie as tie
-use Rattle.engine.proofs.remedies.Reads as reads
-use Rattle.engine.proofs.remedies.Lts as lts
-use Rattle.engine.proofs.judge.judge.Reads as judge-reads
-use Rattle.engine.proofs.remedy.shortest.Reads as shortest-reads
 
--- src/lib.rt:151:9
 told : (c : tie.Else1) → judged (c .before .before .before .before .args .t) (c .before .before .before .before .args .m) ≡ 0
 told c = sym (c .before .judge .ensures) ∙ c .if1 .left
 
 judge-requires : tie.Need-judge-requires
 judge-requires c κs = search needs
 
--- src/lib.rt:154:9
 slice-aggregate-result : tie.Need-slice-aggregate-result
 slice-aggregate-result c = search needs
 
--- src/lib.rt:154:9
 returns : tie.Need-returns
 returns c =
     let a = c .before .before .before .before .before .args in
     let e = remedy-judged (a .t) (a .m) (a .preferred .now) (a .fallback .now) (c .before .before .judge .ensures) (c .before .if1 .taken) in
     (rw e, (rw e, rw e))
 
--- src/lib.rt:158:9
 slice-aggregate-result-2 : tie.Need-slice-aggregate-result-2
 slice-aggregate-result-2 c = search needs
 
--- src/lib.rt:158:9
 returns-2 : tie.Need-returns-2
 returns-2 c =
     let a = c .before .before .before .before .before .before .args in
     let e = remedy-first-long (a .t) (a .m) (a .preferred .now) (a .fallback .now) (told (c .before .before)) (c .before .if2 .taken) in
     (rw e, (rw e, rw e))
 
--- src/lib.rt:162:9
 slice-aggregate-result-3 : tie.Need-slice-aggregate-result-3
 slice-aggregate-result-3 c = search needs
 
--- src/lib.rt:162:9
 returns-3 : tie.Need-returns-3
 returns-3 c =
     let a = c .before .before .before .before .before .before .before .args in
     let e = remedy-second-long (a .t) (a .m) (a .preferred .now) (a .fallback .now) (told (c .before .before .before)) (c .before .if3 .taken) in
     (rw e, (rw e, rw e))
 
--- src/lib.rt:164:9
 shortest-requires : tie.Need-shortest-requires
 shortest-requires c κs = told (c .before .before)
 
--- src/lib.rt:167:9
 slice-aggregate-result-4 : tie.Need-slice-aggregate-result-4
 slice-aggregate-result-4 c = sym (length-take-le _ _ (c .before .if4 .taken))
 
--- src/lib.rt:167:9
 returns-4 : tie.Need-returns-4
 returns-4 c =
     let a = c .before .before .before .before .before .before .before .before .before .args in
     let e = remedy-first (a .t) (a .m) (a .preferred .now) (a .fallback .now) (told (c .before .before .before .before .before)) (c .before .before .before .before .if2 .left) (c .before .before .before .if3 .left) (rw (c .before .before .shortest .ensures) at (c .before .if4 .taken)) in
     (rw (e, c .before .before .shortest .ensures), (rw e, rw e))
 
--- src/lib.rt:169:9
 shortest-requires-2 : tie.Need-shortest-requires-2
 shortest-requires-2 c κs = told (c .before .before .before .before)
 
--- src/lib.rt:172:9
 slice-aggregate-result-5 : tie.Need-slice-aggregate-result-5
 slice-aggregate-result-5 c = sym (length-take-le _ _ (c .before .if5 .taken))
 
--- src/lib.rt:172:9
 returns-5 : tie.Need-returns-5
 returns-5 c =
     let a = c .before .before .before .before .before .before .before .before .before .before .before .args in
     let e = remedy-second (a .t) (a .m) (a .preferred .now) (a .fallback .now) (told (c .before .before .before .before .before .before .before)) (c .before .before .before .before .before .before .if2 .left) (c .before .before .before .before .before .if3 .left) (rw (c .before .before .before .before .shortest .ensures) at (c .before .before .before .if4 .left)) (rw (c .before .before .shortest2 .ensures) at (c .before .if5 .taken)) in
     (rw (e, c .before .before .shortest2 .ensures), (rw e, rw e))
 
--- src/lib.rt:175:5
 slice-aggregate-result-6 : tie.Need-slice-aggregate-result-6
 slice-aggregate-result-6 c = search needs
 
--- src/lib.rt:146:1
 returns-6 : tie.Need-returns-6
 returns-6 c =
     let a = c .before .before .before .before .before .before .before .before .before .before .before .args in

@@ -1,37 +1,28 @@
 -- A trace that is granted is played; one that is refused leaves the buffer and the marking. Assumes nothing.
-use mathlib.Core.Path.{_≡_, ap, sym, _∙_}
+use mathlib.Core.Path.{ap, sym, _∙_}
 use Rattle.rules.specs.declared.Marking.{Marking}
 use Rattle.rules.specs.Laws.Trace.{bytes-granted, bytes-done, bytes-refused}
 use borrow.Author.Needs.{needs}
 use Rattle.engine.proofs.run_bytes.Statement.{statement}
 use Rattle.engine.proofs.run_bytes.Tie as tie
-use Rattle.engine.proofs.run_bytes.Reads as reads
-use Rattle.engine.proofs.run_bytes.Lts as lts
-use Rattle.engine.proofs.trace.bytes_number.Reads as bytes-number-reads
-use Rattle.engine.proofs.trace.played.Reads as played-reads
 
--- src/lib.rt:183:9
 bytes-number-requires : tie.Need-bytes-number-requires
 bytes-number-requires c κs = search needs
 
--- src/lib.rt:185:13
 played-requires : tie.Need-played-requires
 played-requires c κs =
     let a = c .before .before .before .before .before .args in
     bytes-granted (a .t) (a .m) (a .steps .now) (a .answers .now) (sym (c .before .before .bytes-number .ensures) ∙ c .before .if1 .taken)
 
--- src/lib.rt:186:9
 same-length : tie.Need-same-length
 same-length c = search needs
 
--- src/lib.rt:186:9
 returns : tie.Need-returns
 returns c =
     let a = c .before .before .before .before .before .before .before .before .args in
     let done = bytes-done (a .t) (a .m) (a .steps .now) (a .answers .now) (sym (c .before .before .before .before .before .bytes-number .ensures) ∙ c .before .before .before .before .if1 .taken) in
     (ap (λ (k : Marking). record { number = 0; marking = k }) (c .before .before .played .ensures .0) ∙ done .0, c .before .before .played .ensures .1 ∙ done .1)
 
--- src/lib.rt:179:1
 returns-2 : tie.Need-returns-2
 returns-2 c =
     let a = c .before .before .before .before .args in

@@ -1,5 +1,5 @@
 -- The table's part, and what follows it. Assumes nothing.
-use mathlib.Core.Path.{_≡_, ap, sym, subst, _∙_}
+use mathlib.Core.Path.{_≡_, sym, subst, _∙_}
 use mathlib.Core.List.{List}
 use Prim.Native.Nat.{ℕ, _≤_}
 use native.Mathlib.Omega.{arith}
@@ -12,14 +12,7 @@ use Rattle.engine.specs.Laws.Heard.{used-right, table-refused, table-rea
 use borrow.Author.Needs.{needs}
 use Rattle.engine.proofs.station.Statement.{statement}
 use Rattle.engine.proofs.station.Tie as tie
-use Rattle.engine.proofs.station.Reads as reads
-use Rattle.engine.proofs.station.Lts as lts
-use Rattle.engine.proofs.heard.after_table.Reads as after-table-reads
-use Rattle.engine.proofs.heard.misused.Reads as misused-reads
-use Rattle.engine.proofs.heard.table_part.Reads as table-part-reads
-use Rattle.image.proofs.read_table.Reads as read-table-reads
 
--- src/lib.rt:57:8
 -- what the first test told
 right-use : (c : tie.Else1) → (4608 ≤ length (c .before .before .before .before .args .output .now)) × ((c .before .before .before .before .args .beyond ≡ 0) ⊎ (longest ≤ length (c .before .before .before .before .args .input .now)))
 right-use c = used-right _ _ _ (sym (c .before .misused .ensures) ∙ c .if1 .left)
@@ -27,32 +20,25 @@ right-use c = used-right _ _ _ (sym (c .before .misused .ensures) ∙ c .if1 .le
 misused-requires : tie.Need-misused-requires
 misused-requires c κs = search needs
 
--- src/lib.rt:58:9
 returns : tie.Need-returns
 unfolding written
 returns c = rw (sym (c .before .misused .ensures) ∙ c .if1 .taken) (told-none _)
 
--- src/lib.rt:60:9
 table-part-requires : tie.Need-table-part-requires
 table-part-requires c κs = search needs
 
--- src/lib.rt:61:34
 slice-aggregate-read-table : tie.Need-slice-aggregate-read-table
 slice-aggregate-read-table c = sym (length-take-le _ _ (omega (arith, c .before .table-part .ensures)))
 
--- src/lib.rt:61:9
 read-table-requires : tie.Need-read-table-requires
 read-table-requires c κs = search needs
 
--- src/lib.rt:63:9
 slice-write-output : tie.Need-slice-write-output
 slice-write-output c = omega (arith, right-use (c .before .before .before .before .before) .0)
 
--- src/lib.rt:64:9
 same-length : tie.Need-same-length
 same-length c = search needs
 
--- src/lib.rt:64:9
 returns-2 : tie.Need-returns-2
 unfolding written
 returns-2 c =
@@ -64,19 +50,15 @@ returns-2 c =
     (sym (table-refused (a .input .now) (a .beyond) (right .1) (c .before .before .before .before .table-part .result) (c .before .before .before .before .table-part .ensures) (read .result) (read .ensures) (c .if2 .taken)))
     (told-one _ _ (omega (arith, right .0))))
 
--- src/lib.rt:67:27
 sub-after-table : tie.Need-sub-after-table
 sub-after-table c = search needs
 
--- src/lib.rt:67:27
 part-after-table-start : tie.Need-part-after-table-start
 part-after-table-start c = search needs
 
--- src/lib.rt:67:27
 part-after-table-end : tie.Need-part-after-table-end
 part-after-table-end c = search needs
 
--- src/lib.rt:67:5
 after-table-requires : tie.Need-after-table-requires
 after-table-requires c κs =
     let a = c .before .before .before .before .before .before .before .before .before .before .before .before .args in
@@ -86,11 +68,9 @@ after-table-requires c κs =
       (right .0, rest-there (a .input .now) (a .beyond) (right .1) (c .before .before .before .before .before .before .before .table-part .result) (c .before .before .before .before .before .before .before .table-part .ensures) (read .result) (read .ensures) (c .before .before .before .if2 .left)),
     )
 
--- src/lib.rt:54:1
 same-length-2 : tie.Need-same-length-2
 same-length-2 c = search needs
 
--- src/lib.rt:54:1
 returns-3 : tie.Need-returns-3
 unfolding written
 returns-3 c =

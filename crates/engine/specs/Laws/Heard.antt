@@ -8,8 +8,8 @@ use Prim.Native.Nat.{ℕ, zero, suc, _<_, _≤_, _+_, _-_, _*_, _/_, _%_, min}
 use native.Mathlib.Omega.{arith}
 use lib.Dec.{eqb, leb, ltb}
 use lib.ListN.{length, take, drop, getD, set, replicate, length-append, length-take, length-drop, length-replicate, drop-of-length-le}
-use lib.Seq.{take-all, take-append-le, take-at, drop-at, drop-drop}
-use borrow.Author.Tests.{eqb-true, eqb-false, eq-eqb, ne-eqb, ltb-true, ltb-false, lt-ltb, leb-true, leb-false}
+use lib.Seq.{take-all, take-take, take-append-le, take-at, drop-at, drop-drop}
+use borrow.Author.Tests.{eqb-true, eqb-false, eq-eqb, ne-eqb, ltb-true, ltb-false, lt-ltb, le-ltb, leb-true, leb-false}
 use Rattle.rules.specs.declared.Table.{Table}
 use Rattle.rules.specs.declared.Marking.{Marking}
 use Rattle.rules.specs.declared.TableAnswer.{TableAnswer}
@@ -25,7 +25,7 @@ use Rattle.rules.specs.Laws.Numbers.{if-done, both-done}
 use Rattle.rules.specs.Laws.Judge.{Good, good}
 use Rattle.rules.specs.Laws.Fields.{field-lt, field-join, byte-field}
 use Rattle.rules.specs.Laws.Trace.{answers-length, steps-length, end-judged}
-use Rattle.rules.specs.Laws.Station.{longest, tableBytes, tablePart, markingPart, stepsPart, numberOf, stationNumber, station-is, too-long, granted-short, header-small, field-take, table-events, table-short, table-same, events-same, number-by, steps-left}
+use Rattle.rules.specs.Laws.Station.{longest, tableBytes, tablePart, markingPart, stepsPart, numberOf, stationNumber, station-is, too-long, granted-short, header-small, field-take, table-events, table-short, table-same, events-same, number-by, steps-left, same-answer}
 use Rattle.image.specs.Laws.Records.{images-length}
 use Rattle.image.specs.Laws.Written.{number-done, bytes-written}
 use Rattle.engine.specs.Heard.{longestOutput, Told, misused, written, afterMarking, afterTable}
@@ -343,3 +343,32 @@ module _ (t : Table) (m : Marking) (kept before : List ℕ) (granted : byNumber 
       subst (λ (l : List ℕ). Told l before (count + 8 * t .events) (take count now ++ (put ++ drop (length now - count) (drop count now)))) bytes
       (told-behind t after (subst (λ (k : Marking). judged t k ≡ 0) (sym e) (end-judged t m (stepsIn kept) (known .0)))
       (answersOf t m (stepsIn kept)) before now count counted (omega (arith, known .1, room)) now-is put f)
+
+-- What the program hands over of an input: its first bytes, and how many came after them. That is enough
+pub whole-heard : (input : List ℕ) (room : ℕ) → longestOutput ≤ room → written (take longest input) (length input - longest) room ≡ station input
+unfolding written misused
+whole-heard input room enough =
+    let zeros : List ℕ = replicate (length input - longest) 0 in
+    let size : length (take longest input) ≡ min longest (length input) = length-take longest input in
+    let used : (ltb room longestOutput || not (eqb (length input - longest) 0) && ltb (length (take longest input)) longest) ≡ false =
+    rw (le-ltb room longestOutput enough, size) (right (eqb (length input - longest) 0) refl) in
+    rw used
+    (same-answer (take longest input ++ zeros) input
+    (length-append (take longest input) zeros ∙ rw (size, length-replicate {A = ℕ} (length input - longest) 0) (omega arith))
+    (first (leb longest (length input)) refl))
+  where
+    right : (none : Bool) → eqb (length input - longest) 0 ≡ none → (not none && ltb (min longest (length input)) longest) ≡ false
+    right true e = refl
+    right false e = le-ltb (min longest (length input)) longest (omega (arith, eqb-false (length input - longest) 0 e))
+
+    first : (full : Bool) → leb longest (length input) ≡ full → take longest (take longest input ++ replicate (length input - longest) 0) ≡ take longest input
+    first true e =
+        let long : longest ≤ length input = leb-true longest (length input) e in
+        take-append-le longest (take longest input) (replicate (length input - longest) 0) (omega (arith, long, length-take longest input))
+        ∙ take-take longest longest input (omega arith)
+    first false e =
+        let short : length input < longest = leb-false longest (length input) e in
+        let none : length input - longest ≡ 0 = omega arith in
+        ap (λ (n : ℕ). take longest (take longest input ++ replicate n 0)) none
+        ∙ ap (take longest) (append-nil (take longest input))
+        ∙ take-take longest longest input (omega arith)

@@ -11,14 +11,7 @@ use Rattle.engine.specs.Laws.Heard.{steps-long, steps-refused, steps-gra
 use borrow.Author.Needs.{needs}
 use Rattle.engine.proofs.heard.after_marking.Statement.{statement}
 use Rattle.engine.proofs.heard.after_marking.Tie as tie
-use Rattle.engine.proofs.heard.after_marking.Reads as reads
-use Rattle.engine.proofs.heard.after_marking.Lts as lts
-use Rattle.engine.proofs.heard.long_number.Reads as long-number-reads
-use Rattle.engine.proofs.trace.bytes_number.Reads as bytes-number-reads
-use Rattle.engine.proofs.trace.played.Reads as played-reads
-use Rattle.image.proofs.write_marking.Reads as write-marking-reads
 
--- src/heard.rt:56:21
 -- what the tests of the steps' number told
 told : (c : tie.Else2) → (judged (c .before .before .before .before .before .args .t) (c .before .before .before .before .before .args .m) ≡ 0) × (length (c .before .before .before .before .before .args .steps .now) / 2 ≤ 4096)
 told c = let a = c .before .before .before .before .before .args in steps-granted (a .t) (a .m) (a .steps .now) (sym (c .before .bytes-number .ensures) ∙ c .if2 .left)
@@ -32,15 +25,12 @@ still c =
 long-number-requires : tie.Need-long-number-requires
 long-number-requires c κs = search needs
 
--- src/heard.rt:56:9
 slice-write-output : tie.Need-slice-write-output
 slice-write-output c = search needs
 
--- src/heard.rt:57:9
 same-length : tie.Need-same-length
 same-length c = search needs
 
--- src/heard.rt:57:9
 returns : tie.Need-returns
 returns c =
     let a = c .before .before .before .before .args in
@@ -48,19 +38,15 @@ returns c =
     (sym (steps-long (a .t) (a .m) (a .steps .now) (a .beyond) (c .before .if1 .taken) (c .before .before .before .before .pre .1) (c .long-number .ensures)))
     (told-one _ _ (omega (arith, c .before .before .before .before .pre .0)))
 
--- src/heard.rt:60:9
 bytes-number-requires : tie.Need-bytes-number-requires
 bytes-number-requires c κs = search needs
 
--- src/heard.rt:62:9
 slice-write-output-2 : tie.Need-slice-write-output-2
 slice-write-output-2 c = search needs
 
--- src/heard.rt:63:9
 same-length-2 : tie.Need-same-length-2
 same-length-2 c = search needs
 
--- src/heard.rt:63:9
 returns-2 : tie.Need-returns-2
 returns-2 c =
     let a = c .before .before .before .before .before .args in
@@ -68,42 +54,33 @@ returns-2 c =
     (sym (ap (afterMarking (a .t) (a .m) (a .steps .now)) (c .before .before .if1 .left) ∙ steps-refused (a .t) (a .m) (a .steps .now) (c .before .bytes-number .ensures) (c .if2 .taken)))
     (told-one _ _ (omega (arith, c .before .before .before .before .before .pre .0)))
 
--- src/heard.rt:65:9
 played-requires : tie.Need-played-requires
 played-requires c κs =
     let a = c .before .before .before .before .before .before .args in
     let g = steps-granted (a .t) (a .m) (a .steps .now) (sym (c .before .before .bytes-number .ensures) ∙ c .before .if2 .left) in
     (g .0, omega (arith, g .1, c .before .before .before .before .before .before .pre .0))
 
--- src/heard.rt:66:33
 sub-write-marking : tie.Need-sub-write-marking
 sub-write-marking c = omega (arith, still (c .before .before), told (c .before .before .before .before) .1, c .before .before .before .before .before .before .before .before .before .pre .0)
 
--- src/heard.rt:66:33
 part-write-marking-start : tie.Need-part-write-marking-start
 part-write-marking-start c = omega (arith, still (c .before .before), told (c .before .before .before .before) .1, c .before .before .before .before .before .before .before .before .before .pre .0)
 
--- src/heard.rt:66:33
 part-write-marking-end : tie.Need-part-write-marking-end
 part-write-marking-end c = search needs
 
--- src/heard.rt:66:5
 write-marking-requires : tie.Need-write-marking-requires
 write-marking-requires c κs = search needs
 
--- src/heard.rt:67:13
 mul-result : tie.Need-mul-result
 mul-result c = omega (arith, good _ _ (told (c .before .before .before .before .before .before .before .before .before) .0) .table-good .few-events)
 
--- src/heard.rt:67:5
 add-result : tie.Need-add-result
 add-result c = omega (arith, good _ _ (told (c .before .before .before .before .before .before .before .before .before) .0) .table-good .few-events, told (c .before .before .before .before .before .before .before .before .before) .1)
 
--- src/heard.rt:50:1
 same-length-3 : tie.Need-same-length-3
 same-length-3 c = search needs
 
--- src/heard.rt:50:1
 returns-3 : tie.Need-returns-3
 returns-3 c =
     let a = c .before .before .before .before .before .before .before .before .before .before .before .before .before .before .args in

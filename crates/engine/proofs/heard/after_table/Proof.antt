@@ -1,46 +1,34 @@
 -- The marking's part, and what follows it. Assumes nothing.
-use mathlib.Core.Path.{_≡_, ap, sym, subst, _∙_}
+use mathlib.Core.Path.{sym, subst}
 use mathlib.Core.List.{List}
-use Prim.Native.Nat.{ℕ, _≤_}
+use Prim.Native.Nat.{ℕ}
 use native.Mathlib.Omega.{arith}
-use lib.ListN.{length, set}
+use lib.ListN.{set}
 use lib.Seq.{length-take-le}
 use Rattle.engine.specs.Heard.{Told}
 use Rattle.engine.specs.Laws.Heard.{marking-refused, marking-read, steps-there, told-one}
 use borrow.Author.Needs.{needs}
 use Rattle.engine.proofs.heard.after_table.Statement.{statement}
 use Rattle.engine.proofs.heard.after_table.Tie as tie
-use Rattle.engine.proofs.heard.after_table.Reads as reads
-use Rattle.engine.proofs.heard.after_table.Lts as lts
-use Rattle.engine.proofs.heard.after_marking.Reads as after-marking-reads
-use Rattle.engine.proofs.heard.least.Reads as least-reads
-use Rattle.image.proofs.read_marking.Reads as read-marking-reads
 
--- src/heard.rt:77:22
 mul-least : tie.Need-mul-least
 mul-least c = search needs
 
--- src/heard.rt:77:9
 least-requires : tie.Need-least-requires
 least-requires c κs = search needs
 
--- src/heard.rt:78:46
 slice-aggregate-read-marking : tie.Need-slice-aggregate-read-marking
 slice-aggregate-read-marking c = sym (length-take-le _ _ (omega (arith, c .before .least .ensures)))
 
--- src/heard.rt:78:9
 read-marking-requires : tie.Need-read-marking-requires
 read-marking-requires c κs = search needs
 
--- src/heard.rt:80:9
 slice-write-output : tie.Need-slice-write-output
 slice-write-output c = search needs
 
--- src/heard.rt:81:9
 same-length : tie.Need-same-length
 same-length c = search needs
 
--- src/heard.rt:81:9
 returns : tie.Need-returns
 returns c =
     let a = c .before .before .before .before .before .before .before .before .args in
@@ -49,19 +37,15 @@ returns c =
     (sym (marking-refused (a .t) (a .rest .now) (a .beyond) (c .before .before .before .before .least .result) (c .before .before .before .before .least .ensures) (read .result) (read .ensures) (c .if1 .taken)))
     (told-one _ _ (omega (arith, c .before .before .before .before .before .before .before .before .pre .1 .0)))
 
--- src/heard.rt:84:25
 sub-after-marking : tie.Need-sub-after-marking
 sub-after-marking c = search needs
 
--- src/heard.rt:84:25
 part-after-marking-start : tie.Need-part-after-marking-start
 part-after-marking-start c = search needs
 
--- src/heard.rt:84:25
 part-after-marking-end : tie.Need-part-after-marking-end
 part-after-marking-end c = search needs
 
--- src/heard.rt:84:5
 after-marking-requires : tie.Need-after-marking-requires
 after-marking-requires c κs =
     let a = c .before .before .before .before .before .before .before .before .before .before .before .args in
@@ -69,11 +53,9 @@ after-marking-requires c κs =
     let pre = c .before .before .before .before .before .before .before .before .before .before .before .pre in
     (pre .1 .0, steps-there (a .t) (a .rest .now) (a .beyond) (c .before .before .before .before .before .before .before .least .result) (c .before .before .before .before .before .before .before .least .ensures) (read .result) (read .ensures) (pre .0) (pre .1 .1))
 
--- src/heard.rt:71:1
 same-length-2 : tie.Need-same-length-2
 same-length-2 c = search needs
 
--- src/heard.rt:71:1
 returns-2 : tie.Need-returns-2
 returns-2 c =
     let a = c .before .before .before .before .before .before .before .before .before .before .before .before .before .before .args in

@@ -1,32 +1,24 @@
 -- A sum is odd as the sum of its parts' last digits is. Assumes nothing.
-use mathlib.Core.Path.{_≡_, sym, _∙_}
+use mathlib.Core.Path.{sym, _∙_}
 use borrow.Author.Tests.{eq-eqb, ne-eqb}
 use Rattle.rules.specs.Laws.Numbers.{else-refused}
 use Rattle.engine.specs.Laws.Heard.{parity}
 use borrow.Author.Needs.{needs}
 use Rattle.engine.proofs.heard.long_number.Statement.{statement}
 use Rattle.engine.proofs.heard.long_number.Tie as tie
-use Rattle.engine.proofs.heard.long_number.Reads as reads
-use Rattle.engine.proofs.heard.long_number.Lts as lts
-use Rattle.engine.proofs.judge.judge.Reads as judge-reads
 
--- src/heard.rt:39:9
 judge-requires : tie.Need-judge-requires
 judge-requires c κs = search needs
 
--- src/heard.rt:41:13
 add-if2 : tie.Need-add-if2
 add-if2 c = search needs
 
--- src/heard.rt:42:13
 returns : tie.Need-returns
 returns c = rw (sym (c .before .before .judge .ensures) ∙ c .before .if1 .taken, eq-eqb _ 1 (parity _ _ ∙ c .if2 .taken))
 
--- src/heard.rt:44:9
 returns-2 : tie.Need-returns-2
 returns-2 c = rw (sym (c .before .before .judge .ensures) ∙ c .before .if1 .taken, ne-eqb _ 1 (λ z. c .if2 .left (sym (parity _ _) ∙ z)))
 
--- src/heard.rt:36:1
 returns-3 : tie.Need-returns-3
 returns-3 c = c .before .judge .ensures ∙ sym (else-refused _ (λ z. c .if1 .left (c .before .judge .ensures ∙ z)))
 

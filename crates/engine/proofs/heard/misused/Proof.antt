@@ -3,20 +3,15 @@ use borrow.Author.Tests.{lt-ltb, le-ltb, ne-eqb}
 use Rattle.engine.specs.Heard.{misused}
 use Rattle.engine.proofs.heard.misused.Statement.{statement}
 use Rattle.engine.proofs.heard.misused.Tie as tie
-use Rattle.engine.proofs.heard.misused.Reads as reads
-use Rattle.engine.proofs.heard.misused.Lts as lts
 
--- src/heard.rt:28:9
 returns : tie.Need-returns
 unfolding misused
 returns c = rw (lt-ltb _ _ (c .if1 .taken))
 
--- src/heard.rt:31:9
 returns-2 : tie.Need-returns-2
 unfolding misused
 returns-2 c = rw (le-ltb _ _ (c .before .if1 .left), c .if2 .taken)
 
--- src/heard.rt:24:1
 returns-3 : tie.Need-returns-3
 unfolding misused
 returns-3 c = rw (le-ltb _ _ (c .before .if1 .left), ne-eqb _ _ (c .if2 .left))

@@ -1,5 +1,5 @@
 -- The header's two counts stand in its first two bytes. Assumes nothing.
-use mathlib.Core.Path.{_≡_, _∙_}
+use mathlib.Core.Path.{_∙_}
 use Prim.Native.Nat.{_<_}
 use native.Mathlib.Omega.{arith}
 use lib.ListN.{getD}
@@ -7,55 +7,40 @@ use Rattle.engine.specs.Laws.Heard.{header-is}
 use borrow.Author.Needs.{needs}
 use Rattle.engine.proofs.heard.table_part.Statement.{statement}
 use Rattle.engine.proofs.heard.table_part.Tie as tie
-use Rattle.engine.proofs.heard.table_part.Reads as reads
-use Rattle.engine.proofs.heard.table_part.Lts as lts
-use Rattle.engine.proofs.heard.least.Reads as least-reads
 
--- src/heard.rt:28:9
 returns : tie.Need-returns
 returns c = search needs
 
--- src/heard.rt:30:17
 shared-slice-read-first : tie.Need-shared-slice-read-first
 shared-slice-read-first c = search needs
 
--- src/heard.rt:30:17
 cast-first : tie.Need-cast-first
 cast-first c = omega (arith, c .shared-slice-known2 .given 0)
 
--- src/heard.rt:31:18
 shared-slice-read-second : tie.Need-shared-slice-read-second
 shared-slice-read-second c = search needs
 
--- src/heard.rt:31:18
 cast-second : tie.Need-cast-second
 cast-second c = omega (arith, c .shared-slice-known3 .given 1)
 
--- src/heard.rt:32:11
 add-least : tie.Need-add-least
 add-least c = omega (arith, c .before .shared-slice-known2 .given 0, c .shared-slice-known3 .given 1)
 
--- src/heard.rt:32:32
 mul-least : tie.Need-mul-least
 mul-least c = search needs
 
--- src/heard.rt:32:32
 add-least-2 : tie.Need-add-least-2
 add-least-2 c = omega (arith, c .before .shared-slice-known2 .given 0, c .shared-slice-known3 .given 1)
 
--- src/heard.rt:32:27
 mul-least-2 : tie.Need-mul-least-2
 mul-least-2 c = omega (arith, c .before .shared-slice-known2 .given 0, c .shared-slice-known3 .given 1)
 
--- src/heard.rt:32:11
 add-least-3 : tie.Need-add-least-3
 add-least-3 c = omega (arith, c .before .shared-slice-known2 .given 0, c .shared-slice-known3 .given 1)
 
--- src/heard.rt:32:5
 least-requires : tie.Need-least-requires
 least-requires c κs = search needs
 
--- src/heard.rt:24:1
 returns-2 : tie.Need-returns-2
 returns-2 c =
     let bytes = c .before .before .before .before .before .args .input .now in

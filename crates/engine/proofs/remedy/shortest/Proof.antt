@@ -2,7 +2,7 @@
 -- Assumes nothing.
 use mathlib.Core.Path.{_≡_, refl, subst, sym, _∙_}
 use mathlib.Core.Bool.{true}
-use Prim.Native.Nat.{ℕ, _≤_, _+_, _-_}
+use Prim.Native.Nat.{_≤_, _+_, _-_}
 use native.Mathlib.Omega.{arith}
 use lib.ListN.{length}
 use Rattle.rules.specs.declared.Marking.{Marking}
@@ -14,11 +14,6 @@ use Rattle.rules.specs.Laws.Time.{none-due-yet, some-due-still}
 use Rattle.rules.specs.Laws.Remedy.{Passed, passed-none, passed-more, found-here, found-none, stuck-here}
 use Rattle.engine.proofs.remedy.shortest.Statement.{statement}
 use Rattle.engine.proofs.remedy.shortest.Tie as tie
-use Rattle.engine.proofs.remedy.shortest.Reads as reads
-use Rattle.engine.proofs.remedy.shortest.Lts as lts
-use Rattle.engine.proofs.effect.effect.Reads as effect-reads
-use Rattle.engine.proofs.remedy.may_cause.Reads as may-cause-reads
-use Rattle.engine.proofs.time.due_set.Reads as due-set-reads
 
 abbrev Inv-loop : tie.InvT-loop
 Inv-loop t list n trial₀ i₀ trial i = (i ≤ length list) × ((n ≡ length list) × Passed t trial₀ list i trial)
@@ -26,7 +21,6 @@ Inv-loop t list n trial₀ i₀ trial i = (i ≤ length list) × ((n ≡ length 
 abbrev μ-loop : tie.MeasureT-loop
 μ-loop t list n trial₀ i₀ trial i = n - i
 
--- src/remedy.rt:34:5
 -- what the test of the due set told
 due-told : (c : tie.Else1 Inv-loop μ-loop) → anyDue (c .before .before .before .loop .trial) ≡ true
 due-told c = some-due-still _ (λ z. c .if1 .left (c .before .due-set .ensures ∙ z))
@@ -34,52 +28,41 @@ due-told c = some-due-still _ (λ z. c .if1 .left (c .before .due-set .ensures �
 loop-holds : tie.Need-loop-holds Inv-loop μ-loop
 loop-holds c = (omega arith, (refl, passed-none _ _ _ (c .before .pre)))
 
--- src/remedy.rt:35:12
 due-set-requires : tie.Need-due-set-requires Inv-loop μ-loop
 due-set-requires c κs = few-marked (good _ _ (c .before .loop .inv .1 .1 .still-judged))
 
--- src/remedy.rt:36:13
 returns : tie.Need-returns Inv-loop μ-loop
 returns c =
     let at = c .before .before .before .loop in
     sym (found-here _ _ _ (at .i) (at .trial) (at .inv .1 .1) (none-due-yet _ (sym (c .before .due-set .ensures) ∙ c .if1 .taken)))
 
--- src/remedy.rt:38:17
 shared-slice-read-e : tie.Need-shared-slice-read-e Inv-loop μ-loop
 shared-slice-read-e c = omega arith
 
--- src/remedy.rt:38:17
 cast-e : tie.Need-cast-e Inv-loop μ-loop
 cast-e c = omega (arith, c .shared-slice-known2 .given (c .before .before .before .before .loop .i))
 
--- src/remedy.rt:39:13
 may-cause-requires : tie.Need-may-cause-requires Inv-loop μ-loop
 may-cause-requires c κs = c .before .before .before .before .loop .inv .1 .1 .still-judged
 
--- src/remedy.rt:40:20
 add-result : tie.Need-add-result Inv-loop μ-loop
 add-result c = omega arith
 
--- src/remedy.rt:40:13
 returns-2 : tie.Need-returns-2 Inv-loop μ-loop
 returns-2 c =
     let at = c .before .before .before .before .before .before .loop in
     rw (at .inv .1 .0)
     (sym (stuck-here _ _ _ (at .i) (at .trial) (at .inv .1 .1) (omega arith) (due-told (c .before .before .before)) (sym (c .before .may-cause .ensures) ∙ not-true _ (c .if2 .taken))))
 
--- src/remedy.rt:42:9
 effect-requires : tie.Need-effect-requires Inv-loop μ-loop
 effect-requires c κs = good _ _ (c .before .before .before .before .before .before .loop .inv .1 .1 .still-judged)
 
--- src/remedy.rt:43:9
 add-i : tie.Need-add-i Inv-loop μ-loop
 add-i c = omega arith
 
--- src/remedy.rt:34:5
 loop-less : tie.Need-loop-less Inv-loop μ-loop
 loop-less c = omega arith
 
--- src/remedy.rt:34:5
 loop-again : tie.Need-loop-again Inv-loop μ-loop
 loop-again c =
     let at = c .before .before .before .before .before .before .before .loop in
@@ -92,22 +75,18 @@ loop-again c =
       ),
     )
 
--- src/remedy.rt:45:8
 due-set-requires-2 : tie.Need-due-set-requires-2 Inv-loop μ-loop
 due-set-requires-2 c κs = few-marked (good _ _ (c .before .loop .inv .1 .1 .still-judged))
 
--- src/remedy.rt:46:9
 returns-3 : tie.Need-returns-3 Inv-loop μ-loop
 returns-3 c =
     let at = c .before .before .before .loop in
     rw (at .inv .1 .0)
     (sym (found-here _ _ _ (at .i) (at .trial) (at .inv .1 .1) (none-due-yet _ (sym (c .before .due-set2 .ensures) ∙ c .if3 .taken)) ∙ omega arith))
 
--- src/remedy.rt:48:5
 add-result-2 : tie.Need-add-result-2 Inv-loop μ-loop
 add-result-2 c = omega arith
 
--- src/remedy.rt:27:1
 returns-4 : tie.Need-returns-4 Inv-loop μ-loop
 returns-4 c =
     let at = c .before .before .before .loop in

@@ -1,18 +1,13 @@
 -- Of a guarded tick's answer a trace takes the marking. Assumes nothing.
-use mathlib.Core.Path.{_≡_, ap}
+use mathlib.Core.Path.{ap}
 use Rattle.rules.specs.declared.GuardedAnswer.{GuardedAnswer}
 use Rattle.rules.specs.Laws.Judge.{good}
 use Rattle.engine.proofs.trace.accepted.Statement.{statement}
 use Rattle.engine.proofs.trace.accepted.Tie as tie
-use Rattle.engine.proofs.trace.accepted.Reads as reads
-use Rattle.engine.proofs.trace.accepted.Lts as lts
-use Rattle.engine.proofs.guard.guarded.Reads as guarded-reads
 
--- src/trace.rt:85:9
 guarded-requires : tie.Need-guarded-requires
 guarded-requires c κs = good _ _ (c .pre)
 
--- src/trace.rt:81:1
 returns : tie.Need-returns
 returns c = ap (λ (a : GuardedAnswer). record { number = 0; marking = a .marking }) (c .before .guarded .ensures)
 

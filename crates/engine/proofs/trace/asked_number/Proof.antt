@@ -9,12 +9,7 @@ use Rattle.rules.specs.Laws.Told.{event-told}
 use Rattle.rules.specs.Laws.Trace.{exists-told}
 use Rattle.engine.proofs.trace.asked_number.Statement.{statement}
 use Rattle.engine.proofs.trace.asked_number.Tie as tie
-use Rattle.engine.proofs.trace.asked_number.Reads as reads
-use Rattle.engine.proofs.trace.asked_number.Lts as lts
-use Rattle.engine.proofs.enabling.is_enabled.Reads as is-enabled-reads
-use Rattle.engine.proofs.event_set.has_event.Reads as has-event-reads
 
--- src/trace.rt:27:12
 -- what the test of the class told
 class-told : (c : tie.Then2) → Bool·beq (isControllable (c .before .before .before .before .args .t) (c .before .before .before .before .args .e)) (c .before .before .before .before .args .controllable) ≡ true
 class-told c = ap (λ (b : Bool). Bool·beq b (c .before .before .before .before .args .controllable)) (sym (c .before .has-event .ensures)) ∙ c .if2 .taken
@@ -22,32 +17,27 @@ class-told c = ap (λ (b : Bool). Bool·beq b (c .before .before .before .before
 has-event-requires : tie.Need-has-event-requires
 has-event-requires c κs = event-told _ _ _ (exists-told _ _ _ (c .before .before .pre) (c .if1 .taken)) .1
 
--- src/trace.rt:28:16
 is-enabled-requires : tie.Need-is-enabled-requires
 is-enabled-requires c κs = event-told _ _ _ (exists-told _ _ _ (c .before .before .before .before .pre) (c .before .before .if1 .taken))
 
--- src/trace.rt:29:17
 returns : tie.Need-returns
 returns c =
     let start = c .before .before .before .before .before .before in
     ask-granted _ _ _ _ (exists-told _ _ _ (start .pre) (c .before .before .before .before .if1 .taken)) (class-told (c .before .before))
     (sym (c .before .is-enabled .ensures) ∙ c .if3 .taken) ∙ else-done _ (start .pre)
 
--- src/trace.rt:31:13
 returns-2 : tie.Need-returns-2
 returns-2 c =
     let start = c .before .before .before .before .before .before in
     ask-held _ _ _ _ (exists-told _ _ _ (start .pre) (c .before .before .before .before .if1 .taken)) (class-told (c .before .before))
     (sym (c .before .is-enabled .ensures) ∙ c .if3 .left) ∙ else-done _ (start .pre)
 
--- src/trace.rt:33:9
 returns-3 : tie.Need-returns-3
 returns-3 c =
     let start = c .before .before .before .before in
     ask-other _ _ _ _ (exists-told _ _ _ (start .pre) (c .before .before .if1 .taken))
     (ap (λ (b : Bool). Bool·beq b (start .args .controllable)) (sym (c .before .has-event .ensures)) ∙ c .if2 .left) ∙ else-done _ (start .pre)
 
--- src/trace.rt:22:1
 returns-4 : tie.Need-returns-4
 unfolding askNumber
 returns-4 c = rw (le-ltb _ _ (c .if1 .left))

@@ -9,20 +9,13 @@ use Rattle.engine.specs.Running.{begunRun}
 use borrow.Author.Needs.{needs}
 use Rattle.engine.proofs.trace.begun.Statement.{statement}
 use Rattle.engine.proofs.trace.begun.Tie as tie
-use Rattle.engine.proofs.trace.begun.Reads as reads
-use Rattle.engine.proofs.trace.begun.Lts as lts
-use Rattle.engine.proofs.judge.judge.Reads as judge-reads
-use Rattle.engine.proofs.trace.trace_number.Reads as trace-number-reads
 
--- src/trace.rt:190:9
 judge-requires : tie.Need-judge-requires
 judge-requires c κs = search needs
 
--- src/trace.rt:192:9
 trace-number-requires : tie.Need-trace-number-requires
 trace-number-requires c κs = search needs
 
--- src/trace.rt:194:13
 returns : tie.Need-returns
 unfolding begunRun
 returns c =
@@ -30,7 +23,6 @@ returns c =
     rw (sym (c .before .before .before .judge .ensures) ∙ c .before .before .if1 .taken) (sym (c .before .trace-number .ensures) ∙ c .if2 .taken) in
     rw none
 
--- src/trace.rt:187:1
 returns-2 : tie.Need-returns-2
 unfolding begunRun
 returns-2 c =
@@ -38,7 +30,6 @@ returns-2 c =
     rw (sym (c .before .before .before .judge .ensures) ∙ c .before .before .if1 .taken) (c .before .trace-number .ensures) in
     rw (← told, ne-eqb _ 0 (c .if2 .left))
 
--- src/trace.rt:187:1
 returns-3 : tie.Need-returns-3
 unfolding begunRun
 returns-3 c =

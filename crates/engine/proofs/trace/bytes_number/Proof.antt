@@ -1,32 +1,23 @@
 -- The judge's number comes first, then an odd last byte, then what the trace's length gives. Assumes nothing.
-use mathlib.Core.Path.{_≡_, sym, _∙_}
+use mathlib.Core.Path.{sym, _∙_}
 use borrow.Author.Tests.{eq-eqb, ne-eqb}
 use Rattle.rules.specs.Laws.Numbers.{else-refused}
 use borrow.Author.Needs.{needs}
 use Rattle.engine.proofs.trace.bytes_number.Statement.{statement}
 use Rattle.engine.proofs.trace.bytes_number.Tie as tie
-use Rattle.engine.proofs.trace.bytes_number.Reads as reads
-use Rattle.engine.proofs.trace.bytes_number.Lts as lts
-use Rattle.engine.proofs.judge.judge.Reads as judge-reads
-use Rattle.engine.proofs.trace.trace_number.Reads as trace-number-reads
 
--- src/trace.rt:137:9
 judge-requires : tie.Need-judge-requires
 judge-requires c κs = search needs
 
--- src/trace.rt:140:13
 returns : tie.Need-returns
 returns c = rw (sym (c .before .before .judge .ensures) ∙ c .before .if1 .taken, eq-eqb _ _ (c .if2 .taken))
 
--- src/trace.rt:142:9
 trace-number-requires : tie.Need-trace-number-requires
 trace-number-requires c κs = search needs
 
--- src/trace.rt:142:9
 returns-2 : tie.Need-returns-2
 returns-2 c = rw (sym (c .before .before .before .judge .ensures) ∙ c .before .before .if1 .taken, ne-eqb _ _ (c .before .if2 .left), ← c .trace-number .ensures)
 
--- src/trace.rt:134:1
 returns-3 : tie.Need-returns-3
 returns-3 c = c .before .judge .ensures ∙ sym (else-refused _ (λ z. c .if1 .left (c .before .judge .ensures ∙ z)))
 

@@ -1,5 +1,5 @@
 -- By the verdict: the check rejects with 12, or the tick is caused. Assumes nothing.
-use mathlib.Core.Path.{_≡_, ap, sym, _∙_}
+use mathlib.Core.Path.{ap, sym, _∙_}
 use Rattle.rules.specs.declared.GuardedAnswer.{GuardedAnswer}
 use Rattle.rules.specs.Guard.{guardedTick}
 use Rattle.rules.specs.Laws.Judge.{good}
@@ -7,32 +7,22 @@ use Rattle.engine.specs.Laws.Taking.{check-judged, tick-refused}
 use borrow.Author.Needs.{needs}
 use Rattle.engine.proofs.trace.guard_ticked.Statement.{statement}
 use Rattle.engine.proofs.trace.guard_ticked.Tie as tie
-use Rattle.engine.proofs.trace.guard_ticked.Reads as reads
-use Rattle.engine.proofs.trace.guard_ticked.Lts as lts
-use Rattle.engine.proofs.reasons.verdict.Reads as verdict-reads
-use Rattle.engine.proofs.trace.accepted.Reads as accepted-reads
 
--- src/trace.rt:98:9
 verdict-requires : tie.Need-verdict-requires
 verdict-requires c κs = good _ _ (c .pre)
 
--- src/trace.rt:100:30
 enum-known-checked : tie.Need-enum-known-checked
 enum-known-checked c = search needs
 
--- src/trace.rt:101:33
 enum-told : tie.Need-enum-told
 enum-told c = search needs
 
--- src/trace.rt:101:33
 accepted-requires : tie.Need-accepted-requires
 accepted-requires c κs = c .before .before .before .pre
 
--- src/trace.rt:102:39
 enum-told-2 : tie.Need-enum-told-2
 enum-told-2 c = search needs
 
--- src/trace.rt:94:1
 returns : tie.Need-returns
 unfolding guardedTick
 returns c =
@@ -43,11 +33,9 @@ returns c =
     (tick-refused (a .t) (a .m) _ (same ∙ sym (c .before .before .before .verdict .ensures) ∙ c .before .checked .given .1))
     ∙ rw same
 
--- src/trace.rt:94:1
 returns-2 : tie.Need-returns-2
 returns-2 c = c .accepted .ensures ∙ rw (sym (c .before .before .before .verdict .ensures) ∙ c .before .enum-told .given .1)
 
--- src/trace.rt:94:1
 returns-3 : tie.Need-returns-3
 returns-3 c = rw (sym (c .before .before .verdict .ensures) ∙ c .enum-told2 .given .1)
 

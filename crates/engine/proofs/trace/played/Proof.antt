@@ -1,15 +1,12 @@
 -- Step after step, as the laws of a trace go. Assumes nothing.
 use mathlib.Core.Path.{_≡_, refl}
-use Prim.Native.Nat.{ℕ, _<_, _≤_, _-_, _/_}
+use Prim.Native.Nat.{_<_, _≤_, _-_, _/_}
 use native.Mathlib.Omega.{arith}
 use lib.ListN.{length}
 use Rattle.rules.specs.Trace.{stepsIn}
 use Rattle.rules.specs.Laws.Trace.{After, after-none, after-byte-step, after-all-bytes}
 use Rattle.engine.proofs.trace.played.Statement.{statement}
 use Rattle.engine.proofs.trace.played.Tie as tie
-use Rattle.engine.proofs.trace.played.Reads as reads
-use Rattle.engine.proofs.trace.played.Lts as lts
-use Rattle.engine.proofs.trace.turn.Reads as turn-reads
 
 abbrev Inv-loop : tie.InvT-loop
 Inv-loop t steps answers₀ n after₀ i₀ answers after i = (i ≤ n) × ((n ≡ length steps / 2) × After t after₀ (stepsIn steps) answers₀ i after answers)
@@ -17,47 +14,36 @@ Inv-loop t steps answers₀ n after₀ i₀ answers after i = (i ≤ n) × ((n �
 abbrev μ-loop : tie.MeasureT-loop
 μ-loop t steps answers₀ n after₀ i₀ answers after i = n - i
 
--- src/trace.rt:157:5
 loop-holds : tie.Need-loop-holds Inv-loop μ-loop
 loop-holds c = (omega arith, (refl, after-none _ _ _ _))
 
--- src/trace.rt:158:26
 mul-kind : tie.Need-mul-kind Inv-loop μ-loop
 mul-kind c = omega arith
 
--- src/trace.rt:158:20
 shared-slice-read-kind : tie.Need-shared-slice-read-kind Inv-loop μ-loop
 shared-slice-read-kind c = omega arith
 
--- src/trace.rt:159:27
 mul-event : tie.Need-mul-event Inv-loop μ-loop
 mul-event c = omega arith
 
--- src/trace.rt:159:27
 add-event : tie.Need-add-event Inv-loop μ-loop
 add-event c = omega arith
 
--- src/trace.rt:159:21
 shared-slice-read-event : tie.Need-shared-slice-read-event Inv-loop μ-loop
 shared-slice-read-event c = omega arith
 
--- src/trace.rt:160:13
 turn-requires : tie.Need-turn-requires Inv-loop μ-loop
 turn-requires c κs = c .before .before .before .loop .inv .1 .1 .still-judged (c .before .before .before .before .before .before .pre .0)
 
--- src/trace.rt:161:9
 slice-write-answers : tie.Need-slice-write-answers Inv-loop μ-loop
 slice-write-answers c = omega (arith, c .before .before .before .before .loop .inv .1 .1 .same-room, c .before .before .before .before .before .before .before .pre .1)
 
--- src/trace.rt:163:9
 add-i : tie.Need-add-i Inv-loop μ-loop
 add-i c = omega arith
 
--- src/trace.rt:157:5
 loop-less : tie.Need-loop-less Inv-loop μ-loop
 loop-less c = omega arith
 
--- src/trace.rt:157:5
 loop-again : tie.Need-loop-again Inv-loop μ-loop
 loop-again c =
     let a = c .before .before .before .before .before .before .before .before .args in
@@ -71,11 +57,9 @@ loop-again c =
       ),
     )
 
--- src/trace.rt:148:1
 same-length : tie.Need-same-length Inv-loop μ-loop
 same-length c = c .before .loop .inv .1 .1 .same-room
 
--- src/trace.rt:148:1
 returns : tie.Need-returns Inv-loop μ-loop
 returns c =
     let a = c .before .before .before .before .args in

@@ -1,30 +1,22 @@
 -- A plain tick is refused exactly while some event is due. Assumes nothing.
-use mathlib.Core.Path.{_≡_, sym, _∙_}
+use mathlib.Core.Path.{sym, _∙_}
 use Rattle.rules.specs.Time.{plainTickNumber}
 use Rattle.rules.specs.Laws.Judge.{good}
 use Rattle.rules.specs.Laws.Told.{few-marked}
 use Rattle.rules.specs.Laws.Time.{none-due-yet, some-due-still}
 use Rattle.engine.proofs.trace.ticked.Statement.{statement}
 use Rattle.engine.proofs.trace.ticked.Tie as tie
-use Rattle.engine.proofs.trace.ticked.Reads as reads
-use Rattle.engine.proofs.trace.ticked.Lts as lts
-use Rattle.engine.proofs.time.due_set.Reads as due-set-reads
-use Rattle.engine.proofs.time.time.Reads as time-reads
 
--- src/trace.rt:58:8
 due-set-requires : tie.Need-due-set-requires
 due-set-requires c κs = few-marked (good _ _ (c .pre))
 
--- src/trace.rt:59:13
 time-requires : tie.Need-time-requires
 time-requires c κs = few-marked (good _ _ (c .before .before .pre))
 
--- src/trace.rt:60:9
 returns : tie.Need-returns
 unfolding plainTickNumber
 returns c = rw (none-due-yet _ (sym (c .before .before .due-set .ensures) ∙ c .before .if1 .taken), c .time .ensures)
 
--- src/trace.rt:54:1
 returns-2 : tie.Need-returns-2
 unfolding plainTickNumber
 returns-2 c = rw (some-due-still _ (λ z. c .if1 .left (c .before .due-set .ensures ∙ z)))

@@ -3,20 +3,15 @@ use borrow.Author.Tests.{lt-ltb, le-ltb}
 use Rattle.rules.specs.Trace.{traceNumber}
 use Rattle.engine.proofs.trace.trace_number.Statement.{statement}
 use Rattle.engine.proofs.trace.trace_number.Tie as tie
-use Rattle.engine.proofs.trace.trace_number.Reads as reads
-use Rattle.engine.proofs.trace.trace_number.Lts as lts
 
--- src/trace.rt:125:9
 returns : tie.Need-returns
 unfolding traceNumber
 returns c = rw (lt-ltb _ _ (c .if1 .taken))
 
--- src/trace.rt:128:9
 returns-2 : tie.Need-returns-2
 unfolding traceNumber
 returns-2 c = rw (le-ltb _ _ (c .before .if1 .left), lt-ltb _ _ (c .if2 .taken))
 
--- src/trace.rt:121:1
 returns-3 : tie.Need-returns-3
 unfolding traceNumber
 returns-3 c = rw (le-ltb _ _ (c .before .if1 .left), le-ltb _ _ (c .if2 .left))

@@ -1,64 +1,49 @@
 -- One step, by its kind. Assumes nothing.
-use mathlib.Core.Path.{_≡_, ap, sym, _∙_}
+use mathlib.Core.Path.{ap, sym, _∙_}
 use mathlib.Core.Bool.{true, false}
 use Prim.Native.Nat.{ℕ}
 use Rattle.rules.specs.Laws.Trace.{turned, turned-ask, turned-tick, turned-guarded, turned-wrong, wrong-event, wrong-kind}
 use borrow.Author.Needs.{needs}
 use Rattle.engine.proofs.trace.turn.Statement.{statement}
 use Rattle.engine.proofs.trace.turn.Tie as tie
-use Rattle.engine.proofs.trace.turn.Reads as reads
-use Rattle.engine.proofs.trace.turn.Lts as lts
-use Rattle.engine.proofs.trace.asked.Reads as asked-reads
-use Rattle.engine.proofs.trace.guard_ticked.Reads as guard-ticked-reads
-use Rattle.engine.proofs.trace.ticked.Reads as ticked-reads
 
--- src/trace.rt:91:9
 asked-requires : tie.Need-asked-requires
 asked-requires c κs = search needs
 
--- src/trace.rt:91:9
 returns : tie.Need-returns
 returns c =
     let a = c .before .before .args in
     c .asked .ensures ∙ turned-ask (a .t) (a .m) (a .event) true ∙ ap (λ (k : ℕ). turned (a .t) (a .m) k (a .event)) (sym (c .before .if1 .taken))
 
--- src/trace.rt:94:9
 asked-requires-2 : tie.Need-asked-requires-2
 asked-requires-2 c κs = search needs
 
--- src/trace.rt:94:9
 returns-2 : tie.Need-returns-2
 returns-2 c =
     let a = c .before .before .before .args in
     c .asked2 .ensures ∙ turned-ask (a .t) (a .m) (a .event) false ∙ ap (λ (k : ℕ). turned (a .t) (a .m) k (a .event)) (sym (c .before .if2 .taken))
 
--- src/trace.rt:97:9
 returns-3 : tie.Need-returns-3
 returns-3 c =
     let a = c .before .before .before .args in
     turned-wrong (a .t) (a .m) (a .event) (a .kind) (wrong-event (a .kind) (a .event) (c .before .before .if1 .left) (c .before .if2 .left) (c .if3 .taken))
 
--- src/trace.rt:103:9
 ticked-requires : tie.Need-ticked-requires
 ticked-requires c κs = search needs
 
--- src/trace.rt:103:9
 returns-4 : tie.Need-returns-4
 returns-4 c =
     let a = c .before .before .before .before .before .args in
     c .ticked .ensures ∙ turned-tick (a .t) (a .m) (a .event) (c .before .before .if3 .left) ∙ ap (λ (k : ℕ). turned (a .t) (a .m) k (a .event)) (sym (c .before .if4 .taken))
 
--- src/trace.rt:106:9
 guard-ticked-requires : tie.Need-guard-ticked-requires
 guard-ticked-requires c κs = search needs
 
--- src/trace.rt:106:9
 returns-5 : tie.Need-returns-5
 returns-5 c =
     let a = c .before .before .before .before .before .before .args in
     c .guard-ticked .ensures ∙ turned-guarded (a .t) (a .m) (a .event) (c .before .before .before .if3 .left) ∙ ap (λ (k : ℕ). turned (a .t) (a .m) k (a .event)) (sym (c .before .if5 .taken))
 
--- src/trace.rt:85:1
 returns-6 : tie.Need-returns-6
 returns-6 c =
     let a = c .before .before .before .before .before .args in
