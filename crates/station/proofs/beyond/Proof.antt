@@ -1,51 +1,41 @@
+-- The count falls short of its end with each turn that reads something. Assumes nothing.
+use Prim.Native.Nat.{_-_}
+use native.Mathlib.Omega.{arith}
 use Rattle.station.proofs.beyond.Statement.{statement}
 use Rattle.station.proofs.beyond.Tie as tie
-use Rattle.station.proofs.beyond.Reads as reads
-use Rattle.station.proofs.beyond.Lts as lts
-use Rattle.io.proofs.large_buffer.Reads as large-buffer-reads
-use Rattle.io.proofs.read_full.Reads as read-full-reads
 
 abbrev Inv-loop : tie.InvT-loop
-Inv-loop count₀ count = ?
+Inv-loop count₀ count = Unit {0}
 
 abbrev μ-loop : tie.MeasureT-loop
-μ-loop count₀ count = ?
+μ-loop count₀ count = 4611686018427387904 - count
 
--- src/main.rt:7:5
 loop-holds : tie.Need-loop-holds Inv-loop μ-loop
-loop-holds c = ?
+loop-holds c = omega arith
 
--- src/main.rt:8:25
 large-buffer-requires : tie.Need-large-buffer-requires Inv-loop μ-loop
-large-buffer-requires c κs = ?
+large-buffer-requires c κs = omega arith
 
--- src/main.rt:9:34
 slice-aggregate-read-full : tie.Need-slice-aggregate-read-full Inv-loop μ-loop
-slice-aggregate-read-full c = ?
+slice-aggregate-read-full c = omega arith
 
--- src/main.rt:9:13
 read-full-requires : tie.Need-read-full-requires Inv-loop μ-loop
-read-full-requires c κs = ?
+read-full-requires c κs = omega arith
 
--- src/main.rt:11:13
 returns : tie.Need-returns Inv-loop μ-loop
-returns c = ?
+returns c = omega arith
 
--- src/main.rt:13:9
 add-count : tie.Need-add-count Inv-loop μ-loop
-add-count c = ?
+add-count c = omega arith
 
--- src/main.rt:7:5
 loop-less : tie.Need-loop-less Inv-loop μ-loop
-loop-less c = ?
+loop-less c = omega arith
 
--- src/main.rt:7:5
 loop-again : tie.Need-loop-again Inv-loop μ-loop
-loop-again c = ?
+loop-again c = omega arith
 
--- src/main.rt:5:1
 returns-2 : tie.Need-returns-2 Inv-loop μ-loop
-returns-2 c = ?
+returns-2 c = omega arith
 
 pub beyond-spec : {M : Type 1} → statement M
 beyond-spec =
