@@ -6,3 +6,5 @@ pub mod Followed
 pub mod Awaited
 pub mod Reasons
 pub mod Taking
+pub mod Running
+pub mod Heard

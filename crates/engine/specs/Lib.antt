@@ -4,4 +4,6 @@ pub mod Collect
 pub mod Rows
 pub mod Reasons
 pub mod Taking
+pub mod Running
+pub mod Heard
 pub mod Laws

@@ -7,10 +7,13 @@ mod effect;
 mod enabling;
 mod event_set;
 mod guard;
+mod heard;
 mod inhibition;
 mod judge;
 mod reasons;
+mod remedy;
 mod time;
+mod trace;
 mod waiting;
 mod word;
 
@@ -22,8 +25,11 @@ use rules::MarginAnswer;
 use rules::Marking;
 use rules::MarkingAnswer;
 use rules::SetAnswer;
+use rules::Step;
 use rules::Table;
 ghost use mathlib.Core.Path.{_≡_};
+ghost use mathlib.Core.Bool.{cond};
+ghost use lib.ListN.{length};
 ghost use Rattle.rules.specs.EventSet.{sizeOf, lowestOf};
 ghost use Rattle.rules.specs.Enabled.{enabledAnswer};
 ghost use Rattle.rules.specs.Time.{dueAnswer, plainTick};
@@ -33,6 +39,9 @@ ghost use Rattle.rules.specs.HoldUp.{holdUp};
 ghost use Rattle.rules.specs.Closure.{closureAnswer};
 ghost use Rattle.rules.specs.Check.{check};
 ghost use Rattle.rules.specs.Guard.{guardedTick};
+ghost use Rattle.rules.specs.Remedy.{remedy, stretch};
+ghost use Rattle.rules.specs.Trace.{run, runAnswers, runBytes, runBytesAnswers};
+ghost use Rattle.engine.specs.Heard.{Told, written};
 
 // How many events a set holds.
 pub fn size(set: u64) -> u32
@@ -175,4 +184,98 @@ pub fn guarded_tick(t: Table, m: Marking) -> GuardedAnswer
         CheckAnswer::Accepts => guard::guarded(t, m),
         CheckAnswer::Rejects(reason, place) => guard::nothing(12, reason, place, m),
     }
+}
+
+// The shortest start that discharges, of the preferred list if it has one, else of the fallback: that stretch of the operator's own list,
+// or an empty stretch of the preferred list with the number of the refusal. The marking is untouched: what is tried is tried on a copy.
+pub fn remedies<'a>(
+    t: Table,
+    m: Marking,
+    preferred: &'a [u8],
+    fallback: &'a [u8],
+    number: &mut u8,
+) -> &'a [u8]
+    ensures stretch { λ r. ⌜ now r ≡ stretch (remedy t m (now (preferred .entry)) (now (fallback .entry))) (now (preferred .entry)) (now (fallback .entry)) ⌝ }
+    ensures own { λ r. ⌜ r .ptr ≡ cond (remedy t m (now (preferred .entry)) (now (fallback .entry)) .fallback) (fallback .entry .ptr) (preferred .entry .ptr) ⌝ }
+    ensures number { λ _. ⌜ now (number .exit) ≡ remedy t m (now (preferred .entry)) (now (fallback .entry)) .number ⌝ }
+{
+    let refusal = judge::judge(t, m);
+    if refusal != 0 {
+        *number = refusal;
+        return &preferred[..0];
+    }
+    if 255 < preferred.len() {
+        *number = 14;
+        return &preferred[..0];
+    }
+    if 255 < fallback.len() {
+        *number = 14;
+        return &preferred[..0];
+    }
+    let first = remedy::shortest(t, m, preferred);
+    if first <= preferred.len() {
+        *number = 0;
+        return &preferred[..first];
+    }
+    let second = remedy::shortest(t, m, fallback);
+    if second <= fallback.len() {
+        *number = 0;
+        return &fallback[..second];
+    }
+    *number = 13;
+    &preferred[..0]
+}
+
+// A trace of steps of 2 bytes, kind and event; one answer byte per step. Nothing is written before the whole trace is known to be granted.
+pub fn run_bytes(t: Table, m: Marking, steps: &[u8], answers: &mut [u8]) -> MarkingAnswer
+    ensures answer { λ r. ⌜ r ≡ runBytes t m (now (steps .entry)) (length (now (answers .entry))) ⌝ }
+    ensures answers { λ _. ⌜ now (answers .exit) ≡ runBytesAnswers t m (now (steps .entry)) (now (answers .entry)) ⌝ }
+{
+    let whole = trace::bytes_number(t, m, steps.len(), answers.len());
+    if whole == 0 {
+        let after = trace::played(t, m, steps, answers);
+        return MarkingAnswer {
+            number: 0,
+            marking: after,
+        };
+    }
+    MarkingAnswer {
+        number: whole,
+        marking: m,
+    }
+}
+
+// The same of a lent list of steps.
+pub fn run(t: Table, m: Marking, steps: &[Step], answers: &mut [u8]) -> MarkingAnswer
+    ensures { λ r. ⌜ (r ≡ run t m (now (steps .entry)) (length (now (answers .entry)))) × (now (answers .exit) ≡ runAnswers t m (now (steps .entry)) (now (answers .entry))) ⌝ }
+{
+    let mut state = trace::begun(t, m, steps.len(), answers.len());
+    let n = state.steps;
+    let mut i = 0;
+    while i < n {
+        let x = steps[i];
+        let next = trace::further(t, state, x.kind, x.event);
+        answers[i] = next.answer;
+        state = next;
+        i += 1;
+    }
+    trace::ended(state)
+}
+
+// What the station program writes for its whole input, of which the first bytes are kept and so many came after them. It is written to the
+// start of the output; the answer is how many bytes that are. See specs/Heard for what is asked of a caller.
+pub fn station(input: &[u8], beyond: usize, output: &mut [u8]) -> usize
+    ensures { λ r. ⌜ Told (written (now (input .entry)) beyond (length (now (output .entry)))) (now (output .entry)) r (now (output .exit)) ⌝ }
+{
+    if heard::misused(input.len(), beyond, output.len()) {
+        return 0;
+    }
+    let size = heard::table_part(input);
+    let read = image::read_table(&input[..size]);
+    if read.number != 0 {
+        output[0] = read.number;
+        return 1;
+    }
+    let t = read.table;
+    heard::after_table(t, &input[size..], beyond, output)
 }

@@ -20,3 +20,6 @@ pub mod Order
 pub mod Taken
 pub mod Turns
 pub mod Kept
+pub mod Remedy
+pub mod Trace
+pub mod Station

@@ -1,0 +1,98 @@
+// The station's input, part by part: a table as long as its header says, a marking, then steps to the end.
+use super::judge::judge;
+use super::trace::bytes_number;
+use super::trace::played;
+use rules::Marking;
+use rules::Table;
+ghost use mathlib.Core.Path.{_≡_};
+ghost use mathlib.Core.Logic.{_⊎_};
+ghost use Prim.Native.Nat.{_+_, _%_, _≤_, min};
+ghost use lib.Dec.{eqb};
+ghost use lib.ListN.{length};
+ghost use Rattle.rules.specs.Numbers.{_if_, _else_};
+ghost use Rattle.rules.specs.Judge.{judged};
+ghost use Rattle.rules.specs.Laws.Station.{tableBytes};
+ghost use Rattle.engine.specs.Heard.{Told, misused, afterTable, afterMarking};
+
+fn least(a: usize, b: usize) -> usize
+    ensures { λ r. ⌜ r ≡ min a b ⌝ }
+{
+    if a < b { a } else { b }
+}
+
+// The call is not for an output that may be too short, nor for bytes said to come after fewer than are kept of a longest input.
+pub fn misused(kept: usize, beyond: usize, room: usize) -> bool
+    ensures { λ r. ⌜ r ≡ misused kept beyond room ⌝ }
+{
+    if room < 4608 {
+        return true;
+    }
+    if beyond == 0 {
+        return false;
+    }
+    kept < 10308
+}
+
+// How many bytes of the input the table has: as many as its header says, if they are there.
+pub fn table_part(input: &[u8]) -> usize
+    ensures { λ r. ⌜ r ≡ min (tableBytes (now (input .entry))) (length (now (input .entry))) ⌝ }
+{
+    if input.len() < 4 {
+        return input.len();
+    }
+    let first = input[0] as usize;
+    let second = input[1] as usize;
+    least(4 + first / 2 + 6 * (first % 2 * 256 + second), input.len())
+}
+
+// The number of steps of which more came than are kept: they are too long, but an odd last byte comes first.
+fn long_number(t: Table, m: Marking, kept: usize, beyond: usize) -> u8
+    ensures { λ r. ⌜ r ≡ (judged t m else 1 if eqb ((kept + beyond) % 2) 1 else 14) ⌝ }
+{
+    let number = judge(t, m);
+    if number == 0 {
+        if (kept % 2 + beyond % 2) % 2 == 1 {
+            return 1;
+        }
+        return 14;
+    }
+    number
+}
+
+// The steps are played, and the end marking is written behind their answers.
+fn after_marking(t: Table, m: Marking, steps: &[u8], beyond: usize, output: &mut [u8]) -> usize
+    requires { ⌜ 4608 ≤ length (now output) ⌝ }
+    requires { ⌜ (beyond ≡ 0) ⊎ (8192 ≤ length (now steps)) ⌝ }
+    ensures { λ r. ⌜ Told (afterMarking t m (now (steps .entry)) beyond) (now (output .entry)) r (now (output .exit)) ⌝ }
+{
+    if beyond != 0 {
+        output[0] = long_number(t, m, steps.len(), beyond);
+        return 1;
+    }
+    let count = steps.len() / 2;
+    let number = bytes_number(t, m, steps.len(), count);
+    if number != 0 {
+        output[0] = number;
+        return 1;
+    }
+    let after = played(t, m, steps, output);
+    image::write_marking(after, &mut output[count..]);
+    count + 8 * t.events
+}
+
+// The marking is read, and the steps behind it are played.
+pub fn after_table(t: Table, rest: &[u8], beyond: usize, output: &mut [u8]) -> usize
+    requires { ⌜ t .events ≤ 64 ⌝ }
+    requires { ⌜ 4608 ≤ length (now output) ⌝ }
+    requires { ⌜ (beyond ≡ 0) ⊎ (8704 ≤ length (now rest)) ⌝ }
+    ensures { λ r. ⌜ Told (afterTable t (now (rest .entry)) beyond) (now (output .entry)) r (now (output .exit)) ⌝ }
+{
+    let size = least(8 * t.events, rest.len());
+    let read = image::read_marking(t.events, &rest[..size]);
+    if read.number != 0 {
+        output[0] = read.number;
+        return 1;
+    }
+    let m = read.marking;
+    after_marking(t, m, &rest[size..], beyond, output)
+}

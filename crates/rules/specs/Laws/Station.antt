@@ -1,0 +1,232 @@
+-- What the station writes for an input longer than the largest that can be granted depends on its first bytes and its length alone: such an
+-- input is refused, and no number looks further. Assumes nothing.
+use mathlib.Core.Path.{_≡_, refl, _∙_, ap, sym}
+use mathlib.Core.Bool.{Bool, true, false, not, _&&_, _||_, cond}
+use mathlib.Core.List.{List, [], _∷_, _++_}
+use mathlib.Core.Logic.{⊎-elim}
+use Prim.Native.Nat.{ℕ, zero, suc, _<_, _≤_, _+_, _-_, _*_, _/_, _%_}
+use native.Mathlib.Nat.{zero-add, suc-add}
+use native.Mathlib.Omega.{arith}
+use lib.Dec.{eqb, leb, ltb}
+use lib.ListN.{length, take, drop, getD, replicate, length-append, length-take, length-drop, length-replicate}
+use lib.Seq.{take-all, take-take, take-nil, drop-nil, getD-take, take-append-le, length-take-le}
+use borrow.Author.Tests.{eqb-true, eqb-false, leb-true, leb-false, ltb-false, ne-eqb}
+use Rattle.rules.specs.declared.Table.{Table}
+use Rattle.rules.specs.declared.Marking.{Marking}
+use Rattle.rules.specs.declared.TableAnswer.{TableAnswer}
+use Rattle.rules.specs.declared.MarkingAnswer.{MarkingAnswer}
+use Rattle.rules.specs.Numbers.{_if_, _else_, done}
+use Rattle.rules.specs.Fields.{bitAt, field}
+use Rattle.rules.specs.Judge.{eventsFit, relationsFit, judged}
+use Rattle.rules.specs.Image.{eventsIn, relationsIn, headerSpare, tableLength, tableImageNumber, tableIn, readTable, recordBytes, markingImageNumber, readMarking, markingImage}
+use Rattle.rules.specs.Trace.{traceNumber, bytesNumber, stepsIn, endOf, answersOf}
+use Rattle.rules.specs.Station.{station}
+use Rattle.rules.specs.Laws.Fields.{field-lt}
+use Rattle.rules.specs.Laws.Tests.{decide, both, not-false, neither}
+use Rattle.rules.specs.Laws.Numbers.{if-done, both-done}
+
+-- the longest table, marking and steps that are granted, and an input of them
+abbrev pub longest : ℕ
+longest = 1604 + 512 + 8192
+
+-- a field that ends within the first n bytes is one of these bytes
+pub field-take : (image : List ℕ) (n p width : ℕ) → p + width ≤ 8 * n → field (take n image) p width ≡ field image p width
+unfolding field
+field-take image n p zero h = refl
+field-take image n p (suc width) h =
+    let byte : (p + width) / 8 < n = omega arith in
+    rw (field-take image n p width (omega arith), getD-take n image ((p + width) / 8) 0 byte)
+
+pub drop-take : {A : Type 0} (n m : ℕ) (l : List A) → drop n (take (n + m) l) ≡ take m (drop n l)
+drop-take zero m l = rw zero-add
+drop-take {A} (suc n) m [] = rw (take-nil {A = A} (suc n + m), drop-nil {A = A} (suc n), take-nil {A = A} m)
+drop-take (suc n) m (a ∷ l) = rw suc-add (drop-take n m l)
+
+-- the bytes of the table, of the marking and of the steps
+abbrev pub tableBytes : List ℕ → ℕ
+tableBytes input = tableLength (eventsIn input) (relationsIn input)
+
+abbrev pub markingBytes : List ℕ → ℕ
+markingBytes input = recordBytes * eventsIn input
+
+abbrev pub tablePart : List ℕ → List ℕ
+tablePart input = take (tableBytes input) input
+
+abbrev pub markingPart : List ℕ → List ℕ
+markingPart input = take (markingBytes input) (drop (tableBytes input) input)
+
+abbrev pub stepsPart : List ℕ → List ℕ
+stepsPart input = drop (markingBytes input) (drop (tableBytes input) input)
+
+-- the number of an input, by the two images and the number of step bytes
+unfoldable pub numberOf : List ℕ → ℕ → List ℕ → ℕ → ℕ
+numberOf table events marking steps =
+    readTable table .number
+    else readMarking events marking .number
+    else judged (readTable table .table) (readMarking events marking .marking)
+    else 1 if eqb (steps % 2) 1
+    else traceNumber (steps / 2) (steps / 2)
+
+abbrev pub stationNumber : List ℕ → ℕ
+stationNumber input = numberOf (tablePart input) (eventsIn input) (markingPart input) (length (stepsPart input))
+
+-- what is written
+pub station-is : (input : List ℕ) → station input ≡ done (stationNumber input)
+    (let t = readTable (tablePart input) .table in
+    let m = readMarking (eventsIn input) (markingPart input) .marking in
+    answersOf t m (stepsIn (stepsPart input)) ++ markingImage (endOf t m (stepsIn (stepsPart input))))
+    (stationNumber input ∷ [])
+unfolding station numberOf
+station-is input = refl
+
+-- What is granted is short.
+pub table-short : (image : List ℕ) → readTable image .number ≡ 0 → length image ≤ 1604
+unfolding readTable tableImageNumber
+table-short image h =
+    let n = eventsIn image in
+    let relations = relationsIn image in
+    let counts = eventsFit n && relationsFit relations in
+    let whole = eqb (length image) (tableLength n relations) in
+    let a = both-done (1 if ltb (length image) 4) _ h in
+    let b = both-done (2 if not (eqb (headerSpare image) 0)) _ (a .1) in
+    let c = both-done (3 if not counts) _ (b .1) in
+    let d = both-done (1 if not whole) _ (c .1) in
+    let fit = both (eventsFit n) (relationsFit relations) (not-false counts (if-done 2 (not counts) (c .0))) in
+    let few = both (leb 1 n) (leb n 64) (fit .0) in
+    let e : length image ≡ 4 + n + 6 * relations = eqb-true (length image) (tableLength n relations) (not-false whole (if-done 0 (not whole) (d .0))) in
+    let l : n ≤ 64 = leb-true n 64 (few .1) in
+    let k : relations ≤ 256 = leb-true relations 256 (fit .1) in
+    omega arith
+
+-- the events of a table that is read are its header's, and few
+pub table-events : (image : List ℕ) → readTable image .number ≡ 0 → (readTable image .table .events ≡ eventsIn image) × (eventsIn image ≤ 64)
+unfolding readTable tableImageNumber tableIn
+table-events image h =
+    let n = eventsIn image in
+    let counts = eventsFit n && relationsFit (relationsIn image) in
+    let a = both-done (1 if ltb (length image) 4) _ h in
+    let b = both-done (2 if not (eqb (headerSpare image) 0)) _ (a .1) in
+    let c = both-done (3 if not counts) _ (b .1) in
+    let fit = both (eventsFit n) (relationsFit (relationsIn image)) (not-false counts (if-done 2 (not counts) (c .0))) in
+    (rw h, leb-true n 64 (both (leb 1 n) (leb n 64) (fit .0) .1))
+
+pub marking-short : (events : ℕ) (image : List ℕ) → readMarking events image .number ≡ 0 → length image ≤ 512
+unfolding readMarking markingImageNumber
+marking-short events image h =
+    let whole = eqb (length image) (recordBytes * events) in
+    let a = both-done (3 if not (eventsFit events)) _ h in
+    let b = both-done (1 if not whole) _ (a .1) in
+    let few = both (leb 1 events) (leb events 64) (not-false (eventsFit events) (if-done 2 (not (eventsFit events)) (a .0))) in
+    let e : length image ≡ 8 * events = eqb-true (length image) (recordBytes * events) (not-false whole (if-done 0 (not whole) (b .0))) in
+    let l : events ≤ 64 = leb-true events 64 (few .1) in
+    omega arith
+
+steps-short : (steps : ℕ) → (1 if eqb (steps % 2) 1 else traceNumber (steps / 2) (steps / 2)) ≡ 0 → steps ≤ 8192
+unfolding traceNumber
+steps-short steps h =
+    let long = ltb 4096 (steps / 2) in
+    let tight = ltb (steps / 2) (steps / 2) in
+    let a = both-done (1 if eqb (steps % 2) 1) _ h in
+    let few = ltb-false 4096 (steps / 2) (neither long tight (if-done 13 (long || tight) (a .1)) .0) in
+    let even = eqb-false (steps % 2) 1 (if-done 0 (eqb (steps % 2) 1) (a .0)) in
+    omega (arith, few, even)
+
+-- the three parts are the input
+parts-length : (a b : ℕ) (input : List ℕ) → length (take a input) + length (take b (drop a input)) + length (drop b (drop a input)) ≡ length input
+parts-length a b input = simp (length-take, length-drop) (omega arith)
+
+pub granted-short : (input : List ℕ) → stationNumber input ≡ 0 → length input ≤ longest
+unfolding numberOf
+granted-short input h =
+    let t = readTable (tablePart input) in
+    let m = readMarking (eventsIn input) (markingPart input) in
+    let a = both-done (t .number) _ h in
+    let b = both-done (m .number) _ (a .1) in
+    let c = both-done (judged (t .table) (m .marking)) _ (b .1) in
+    omega (
+      arith,
+      table-short (tablePart input) (a .0),
+      marking-short (eventsIn input) (markingPart input) (b .0),
+      steps-short (length (stepsPart input)) (c .1),
+      parts-length (tableBytes input) (markingBytes input) input,
+    )
+
+-- an input that is too long is refused
+pub too-long : (input : List ℕ) → longest < length input → station input ≡ stationNumber input ∷ []
+too-long input h = station-is input ∙ rw (ne-eqb (stationNumber input) 0 (λ z. absurd (omega (arith, granted-short input z))))
+
+-- The parts that are read lie within the first bytes, whatever the header says.
+pub header-small : (input : List ℕ) → tableBytes input + markingBytes input ≤ longest
+header-small input = omega (arith, field-lt input 0 7, field-lt input 7 9)
+
+module _ (input : List ℕ) where
+  abbrev first : List ℕ
+  first = take longest input
+
+  events-first : eventsIn first ≡ eventsIn input
+  events-first = field-take input longest 0 7 (omega arith)
+
+  relations-first : relationsIn first ≡ relationsIn input
+  relations-first = field-take input longest 7 9 (omega arith)
+
+  table-first : tableBytes first ≡ tableBytes input
+  table-first = rw (events-first, relations-first)
+
+  pub table-part-first : tablePart first ≡ tablePart input
+  table-part-first = rw (table-first) (take-take (tableBytes input) longest input (omega (arith, header-small input)))
+
+  pub marking-part-first : markingPart first ≡ markingPart input
+  marking-part-first =
+      let size = tableBytes input in
+      let rest = markingBytes input in
+      let more : longest ≡ size + (longest - size) = omega (arith, header-small input) in
+      rw (events-first, relations-first)
+      (ap {B = List ℕ} (λ k. take rest (drop size (take k input))) more
+      ∙ ap {B = List ℕ} (take rest) (drop-take size (longest - size) input)
+      ∙ take-take rest (longest - size) (drop size input) (omega (arith, header-small input)))
+
+-- the number of step bytes is what is left of the length
+pub steps-left : (input : List ℕ) → length (stepsPart input) ≡ length input - tableBytes input - markingBytes input
+steps-left input = simp length-drop
+
+-- two inputs with the same first bytes have the same parts before the steps
+module _ (a b : List ℕ) (same-first : take longest a ≡ take longest b) where
+  pub events-same : eventsIn a ≡ eventsIn b
+  events-same = sym (events-first a) ∙ ap eventsIn same-first ∙ events-first b
+
+  pub table-same : tableBytes a ≡ tableBytes b
+  table-same = sym (table-first a) ∙ ap tableBytes same-first ∙ table-first b
+
+  pub table-part-same : tablePart a ≡ tablePart b
+  table-part-same = sym (table-part-first a) ∙ ap tablePart same-first ∙ table-part-first b
+
+  pub marking-part-same : markingPart a ≡ markingPart b
+  marking-part-same = sym (marking-part-first a) ∙ ap markingPart same-first ∙ marking-part-first b
+
+  -- so their number goes by the number of step bytes
+  pub number-by : (steps : ℕ) → length (stepsPart a) ≡ steps → stationNumber a ≡ numberOf (tablePart b) (eventsIn b) (markingPart b) steps
+  number-by steps e =
+      ap (λ (l : List ℕ). numberOf l (eventsIn a) (markingPart a) (length (stepsPart a))) table-part-same
+      ∙ ap (λ (l : List ℕ). numberOf (tablePart b) (eventsIn a) l (length (stepsPart a))) marking-part-same
+      ∙ ap (λ (n : ℕ). numberOf (tablePart b) n (markingPart b) (length (stepsPart a))) events-same
+      ∙ ap (numberOf (tablePart b) (eventsIn b) (markingPart b)) e
+
+-- what is written goes by the first bytes and the length
+module _ (a b : List ℕ) (same-length : length a ≡ length b) (same-first : take longest a ≡ take longest b) where
+  steps-same : length (stepsPart a) ≡ length (stepsPart b)
+  steps-same = steps-left a ∙ rw (same-length, table-same a b same-first, events-same a b same-first) (sym (steps-left b))
+
+  pub same-answer : station a ≡ station b
+  same-answer = ⊎-elim short long (decide (leb (length a) longest))
+    where
+      short : leb (length a) longest ≡ true → station a ≡ station b
+      short h =
+          let l : length a ≤ longest = leb-true (length a) longest h in
+          ap station (sym (take-all longest a l) ∙ same-first ∙ take-all longest b (rw same-length at l))
+
+      long : leb (length a) longest ≡ false → station a ≡ station b
+      long h =
+          let l : longest < length a = leb-false (length a) longest h in
+          too-long a l
+          ∙ ap {B = List ℕ} (λ n. n ∷ []) (number-by a b same-first (length (stepsPart b)) steps-same)
+          ∙ sym (too-long b (omega (arith, same-length)))
