@@ -5,7 +5,7 @@
 fn beyond() -> usize {
     let mut count = 0;
     while count < 0x4000_0000_0000_0000 {
-        let mut space = io::large_buffer();
+        let mut space = io::buffer();
         let n = io::read_full(0, &mut space);
         if n == 0 {
             return count;

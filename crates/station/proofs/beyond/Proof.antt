@@ -13,8 +13,8 @@ abbrev μ-loop : tie.MeasureT-loop
 loop-holds : tie.Need-loop-holds Inv-loop μ-loop
 loop-holds c = omega arith
 
-large-buffer-requires : tie.Need-large-buffer-requires Inv-loop μ-loop
-large-buffer-requires c κs = omega arith
+buffer-requires : tie.Need-buffer-requires Inv-loop μ-loop
+buffer-requires c κs = omega arith
 
 slice-aggregate-read-full : tie.Need-slice-aggregate-read-full Inv-loop μ-loop
 slice-aggregate-read-full c = omega arith
@@ -44,7 +44,7 @@ beyond-spec =
     Inv-loop
     μ-loop
     loop-holds
-    large-buffer-requires
+    buffer-requires
     slice-aggregate-read-full
     read-full-requires
     returns
