@@ -2,7 +2,7 @@
 //! against the second implementation's.
 
 use crate::calls::Call;
-use crate::wire;
+use crate::{shape, wire};
 use second::case::Case;
 use second::rng::Rng;
 use std::collections::BTreeMap;
@@ -17,6 +17,8 @@ pub struct Question {
     pub expected: Vec<u8>,
     /// 0 for done, else the refusal number.
     pub number: u8,
+    /// What the case has in it.
+    pub shapes: Vec<&'static str>,
 }
 
 impl Question {
@@ -27,6 +29,7 @@ impl Question {
             payload: wire::payload(case),
             expected: wire::answer(case, &answer),
             number: answer.number(),
+            shapes: shape::of(case),
         }
     }
 
@@ -141,33 +144,57 @@ pub fn difference(question: Question, got: Got) -> Option<Difference> {
     })
 }
 
-/// How many cases of each call there were, by their number for done or refusal.
+/// Of one call: how many cases there were, by their number for done or refusal,
+/// and by what they have in them.
+#[derive(Default)]
+struct Count {
+    numbers: BTreeMap<u8, usize>,
+    shapes: BTreeMap<&'static str, usize>,
+}
+
+impl Count {
+    fn cases(&self) -> usize {
+        self.numbers.values().sum()
+    }
+}
+
 #[derive(Default)]
 pub struct Tally {
-    counts: BTreeMap<(u8, &'static str), BTreeMap<u8, usize>>,
+    counts: BTreeMap<(u8, &'static str), Count>,
 }
 
 impl Tally {
     pub fn add(&mut self, question: &Question) {
         let call = (question.call.number, question.call.name);
-        let counts = self.counts.entry(call).or_default();
-        *counts.entry(question.number).or_default() += 1;
+        let count = self.counts.entry(call).or_default();
+        *count.numbers.entry(question.number).or_default() += 1;
+        for shape in &question.shapes {
+            *count.shapes.entry(shape).or_default() += 1;
+        }
     }
 
     pub fn cases(&self) -> usize {
-        self.counts.values().flat_map(BTreeMap::values).sum()
+        self.counts.values().map(Count::cases).sum()
     }
 }
 
 impl fmt::Display for Tally {
     fn fmt(&self, out: &mut fmt::Formatter) -> fmt::Result {
-        for ((number, name), counts) in &self.counts {
-            let cases: usize = counts.values().sum();
-            write!(out, "{number:>2} {name:<14}{cases:>7} cases:")?;
-            for (refusal, times) in counts {
+        for ((number, name), count) in &self.counts {
+            write!(out, "{number:>2} {name:<14}{:>7} cases:", count.cases())?;
+            for (refusal, times) in &count.numbers {
                 write!(out, "  {refusal} x {times}")?;
             }
             writeln!(out)?;
+            if count.shapes.is_empty() {
+                continue;
+            }
+            let shapes: Vec<String> = count
+                .shapes
+                .iter()
+                .map(|s| format!("{} {}", s.0, s.1))
+                .collect();
+            writeln!(out, "   {}", shapes.join(", "))?;
         }
         Ok(())
     }

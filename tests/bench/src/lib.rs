@@ -6,4 +6,5 @@
 pub mod calls;
 pub mod compare;
 pub mod edges;
+pub mod shape;
 pub mod wire;

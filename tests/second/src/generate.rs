@@ -65,8 +65,18 @@ pub fn sound_pair(rng: &mut Rng) -> Pair {
 
 /// Mostly sound; else one or both parts are damaged.
 pub fn pair(rng: &mut Rng) -> Pair {
+    pair_damaged_in(rng, 25)
+}
+
+/// For the calls that are about the check: most of these it accepts.
+fn pair_to_check(rng: &mut Rng) -> Pair {
+    pair_damaged_in(rng, 10)
+}
+
+/// One or both parts damaged in so many of a hundred cases.
+fn pair_damaged_in(rng: &mut Rng, percent: usize) -> Pair {
     let mut pair = sound_pair(rng);
-    if rng.chance(25) {
+    if rng.chance(percent) {
         let which = rng.below(4);
         if which != 0 {
             damage::damage_table(rng, &mut pair.table);
@@ -440,15 +450,21 @@ pub fn hold_up_case(rng: &mut Rng) -> Case {
 }
 
 pub fn closure_case(rng: &mut Rng) -> Case {
-    Case::Closure { pair: pair(rng) }
+    Case::Closure {
+        pair: pair_to_check(rng),
+    }
 }
 
 pub fn check_case(rng: &mut Rng) -> Case {
-    Case::Check { pair: pair(rng) }
+    Case::Check {
+        pair: pair_to_check(rng),
+    }
 }
 
 pub fn guarded_tick_case(rng: &mut Rng) -> Case {
-    Case::GuardedTick { pair: pair(rng) }
+    Case::GuardedTick {
+        pair: pair_to_check(rng),
+    }
 }
 
 pub fn remedies_case(rng: &mut Rng) -> Case {

@@ -239,7 +239,7 @@ fn shaped(rng: &mut Rng) -> (Table, Marking) {
     for event in 0..plan.events {
         marking.records[event] = plan.record(rng, event, busy_day);
     }
-    if rng.chance(30) {
+    if rng.chance(35) {
         add_chain(rng, &plan, &mut table, &mut marking);
     }
     (table, marking)
@@ -251,7 +251,9 @@ fn add_chain(rng: &mut Rng, plan: &Plan, table: &mut Table, marking: &mut Markin
     chain.sort_by_key(|&event| plan.rank[event]);
     // An uncontrollable event with an inhibitor would be reason 1.
     chain.retain(|&event| plan.controllable[event]);
-    chain.truncate(rng.between(2, 6));
+    if rng.chance(80) {
+        chain.truncate(rng.between(2, 6));
+    }
     let Some(&first) = chain.first() else { return };
     marking.records[first] = Record {
         included: true,
@@ -405,7 +407,7 @@ pub fn pair(rng: &mut Rng) -> (Table, Marking) {
     if rng.chance(30) {
         marking = advanced(rng, &table, &marking);
     }
-    if rng.chance(35) {
+    if rng.chance(30) {
         for _ in 0..rng.one_of([1, 1, 2]) {
             // None: there was no place for the reason drawn.
             let _ = spoil(rng, &mut table, &mut marking);

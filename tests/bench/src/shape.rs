@@ -1,0 +1,134 @@
+//! What a case has in it, so that a run can show that it went where a guarded
+//! tick has much to do. Nothing is compared here.
+
+use second::case::{Case, Pair};
+use second::{check, due, guarded_tick, Record, Relation};
+use std::collections::BTreeSet;
+
+const RESPONSE: u8 = 2;
+const INCLUDES: u8 = 3;
+const EXCLUDES: u8 = 4;
+const MILESTONE: u8 = 5;
+
+/// An image has 3 bits for a kind, 6 for an event, 30 for a time.
+fn fits_image(relation: &Relation) -> bool {
+    relation.kind < 8 && relation.left < 64 && relation.right < 64 && relation.time < 1 << 30
+}
+
+fn record_fits_image(record: &Record) -> bool {
+    record.age < 1 << 30 && record.deadline < 1 << 30
+}
+
+/// Whether the used places hold a value that no image can hold.
+fn past_an_image(pair: &Pair) -> bool {
+    let (table, marking) = (&pair.table, &pair.marking);
+    let mut relations = table.relations.iter().take(table.count);
+    let mut records = marking.records.iter().take(marking.events);
+    table.events > 127
+        || table.count > 511
+        || !relations.all(fits_image)
+        || !records.all(record_fits_image)
+}
+
+fn relations(pair: &Pair) -> impl Iterator<Item = (u8, usize, usize)> + '_ {
+    let used = pair.table.relations.iter().take(pair.table.count);
+    used.map(|k| (k.kind, usize::from(k.left), usize::from(k.right)))
+}
+
+/// Whether the second of two events keeps the first from happening, if the
+/// relation between them is of this kind. The pair is accepted, so conditions
+/// of events that are looked at here have time 0.
+fn blocks(pair: &Pair, kind: u8, right: usize) -> bool {
+    let record = &pair.marking.records[right];
+    let open = match kind {
+        1 => !record.happened,
+        MILESTONE => record.pending,
+        _ => false,
+    };
+    record.included && open
+}
+
+/// How many links the longest chain of blocking inhibitors has that leads to
+/// each needed event; None for the others. The pair is accepted, so no chain
+/// comes back to its start.
+fn links(pair: &Pair) -> [Option<usize>; 64] {
+    let set = due(&pair.table, &pair.marking).set;
+    let mut links = [None; 64];
+    for (event, length) in links.iter_mut().enumerate() {
+        *length = (set >> event & 1 == 1).then_some(0);
+    }
+    loop {
+        let before = links;
+        for (kind, left, right) in relations(pair) {
+            if let (Some(length), true) = (links[left], blocks(pair, kind, right)) {
+                links[right] = links[right].max(Some(length + 1));
+            }
+        }
+        if links == before {
+            return links;
+        }
+    }
+}
+
+/// Of an accepted pair.
+fn of_accepted(pair: &Pair) -> Vec<&'static str> {
+    let due = due(&pair.table, &pair.marking).set.count_ones();
+    let links = links(pair);
+    let longest = links.iter().max().copied().flatten().unwrap_or(0);
+    let all: BTreeSet<usize> = (0..64).filter(|&event| links[event].is_some()).collect();
+    let within = |kind: u8, same: bool| -> BTreeSet<(usize, usize)> {
+        relations(pair)
+            .filter(|&(k, left, right)| k == kind && (left == right) == same)
+            .filter(|(_, left, right)| all.contains(left) && all.contains(right))
+            .map(|(_, left, right)| (left, right))
+            .collect()
+    };
+    let exclusions = within(EXCLUDES, false);
+    let mutual = exclusions
+        .iter()
+        .any(|&(a, b)| exclusions.contains(&(b, a)));
+    let caused = usize::from(guarded_tick(&pair.table, &pair.marking).count);
+    let shapes = [
+        ("accepted", true),
+        ("several due", due > 1),
+        ("inhibitor needed", longest > 0),
+        ("chain of 2 or more inhibitors", longest > 1),
+        ("chain of 4 or more inhibitors", longest > 3),
+        ("mutual exclusion needed", mutual),
+        ("self-include needed", !within(INCLUDES, true).is_empty()),
+        ("self-response needed", !within(RESPONSE, true).is_empty()),
+        ("needed left out", caused < all.len()),
+        ("2 or more caused", caused > 1),
+        ("4 or more caused", caused > 3),
+        ("16 or more caused", caused > 15),
+    ];
+    let there = shapes.into_iter().filter(|shape| shape.1);
+    there.map(|shape| shape.0).collect()
+}
+
+const REASONS: [&str; 7] = [
+    "no reason",
+    "reason 1",
+    "reason 2",
+    "reason 3",
+    "reason 4",
+    "reason 5",
+    "reason 6",
+];
+
+/// The words for what is in the case's table and marking, if it has both.
+pub fn of(case: &Case) -> Vec<&'static str> {
+    let Some(pair) = case.pair() else {
+        return Vec::new();
+    };
+    let checked = check(&pair.table, &pair.marking);
+    let mut shapes = match checked.number {
+        0 => of_accepted(pair),
+        12 => vec![REASONS[usize::from(checked.reason)]],
+        _ => Vec::new(),
+    };
+    if past_an_image(pair) {
+        shapes.push("past an image");
+    }
+    shapes
+}
