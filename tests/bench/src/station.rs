@@ -5,14 +5,19 @@ use crate::inputs::{edges, random, shown, wanted, Shown};
 use crate::program::start;
 use second::rng::Rng;
 use second::station;
-use std::collections::{BTreeMap, BTreeSet};
+use std::collections::{BTreeMap, BTreeSet, VecDeque};
 use std::fmt;
 use std::io::{Read, Write};
+use std::process::Child;
 use std::thread;
 use std::time::Duration;
 
 /// A report shows so much of an input or output.
 const SHOWN_BYTES: usize = 200;
+
+/// So many runs are started ahead of their inputs: each then waits for its
+/// input, and reads a piece before the next one is written.
+const AHEAD: usize = 8;
 
 /// Writes an input in pieces that end at these places, so that a reader meets
 /// short reads. A program that ended early reads no more; what it wrote tells.
@@ -24,7 +29,7 @@ fn feed(mut to: impl Write, input: &[u8], ends: &[usize]) {
         }
         if end < input.len() {
             // Time to read what is there.
-            thread::sleep(Duration::from_millis(1));
+            thread::sleep(Duration::from_millis(2));
         }
         begin = end;
     }
@@ -38,9 +43,8 @@ fn some_ends(rng: &mut Rng, length: usize) -> Vec<usize> {
     ends
 }
 
-/// What one run of the program writes.
-fn output(words: &[String], input: &[u8], ends: &[usize]) -> std::io::Result<Vec<u8>> {
-    let mut child = start(words)?;
+/// What a started run of the program writes.
+fn output(mut child: Child, input: &[u8], ends: &[usize]) -> std::io::Result<Vec<u8>> {
     let to = child.stdin.take().expect("the input is a pipe");
     let mut from = child.stdout.take().expect("the output is a pipe");
     let mut output = Vec::new();
@@ -137,11 +141,16 @@ pub fn run(
     let mut rng = Rng::new(seed);
     let mut edges = edges().into_iter();
     let total = edges.len() + inputs;
+    let mut started = VecDeque::new();
     for number in 0..total {
+        while started.len() < AHEAD.min(total - number) {
+            started.push_back(start(words)?);
+        }
         let input = edges.next().unwrap_or_else(|| random(&mut rng));
         let ends = some_ends(&mut rng, input.len());
         let expected = station(&input);
-        let got = output(words, &input, &ends)?;
+        let child = started.pop_front().expect("one is started");
+        let got = output(child, &input, &ends)?;
         if got != expected {
             return Ok(Err(Box::new(Difference {
                 number,

@@ -18,9 +18,16 @@ fn a_station_that_agrees_is_granted() {
 
 #[test]
 fn a_station_with_a_fault_is_reported() {
-    for fault in ["late", "early", "long"] {
-        assert!(verdict(&[fault]).is_err(), "{fault}");
-    }
+    assert!(verdict(&["late"]).is_err());
+    assert!(verdict(&["long"]).is_err());
+}
+
+#[test]
+fn a_station_that_reads_one_piece_is_reported() {
+    let difference = verdict(&["early"]).err().expect("it differs");
+    // One read has room for this input: it did not get all the pieces.
+    assert!(difference.input.len() < 20_000);
+    assert!(!difference.ends.is_empty());
 }
 
 #[test]
