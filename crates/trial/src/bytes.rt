@@ -43,6 +43,11 @@ pub fn after(s: &[u8], at: usize) -> &[u8] {
     if at < s.len() { &s[at..] } else { &s[0..0] }
 }
 
+// The first n bytes, or all if there are fewer.
+pub fn before(s: &[u8], n: usize) -> &[u8] {
+    if n < s.len() { &s[0..n] } else { s }
+}
+
 pub fn put_byte(out: &mut [u8], at: usize, b: u8) {
     if at < out.len() {
         out[at] = b;

@@ -1,4 +1,4 @@
-// Calls 7 to 18: the engine's. All but the first two have a table and a marking, and some an event or a relation asked about behind them.
+// Calls 7 to 18: the engine's that are lent no list. All but the first two have a table and a marking, and some an event or a relation asked about behind them.
 use crate::answer;
 use crate::answer::START;
 use crate::bytes;
@@ -15,11 +15,11 @@ pub const FIRST: u8 = 7;
 // Where the caused events stand: behind number, reason and place.
 const CAUSED: usize = 12;
 
-fn table_of(s: &[u8]) -> Table {
+pub fn table_of(s: &[u8]) -> Table {
     table::table_at(s, 0)
 }
 
-fn marking_of(s: &[u8]) -> Marking {
+pub fn marking_of(s: &[u8]) -> Marking {
     marking::marking_at(s, table::SIZE)
 }
 

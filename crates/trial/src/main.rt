@@ -7,6 +7,7 @@ mod calls;
 mod engine_calls;
 mod frame;
 mod image_calls;
+mod list_calls;
 mod marking;
 mod table;
 

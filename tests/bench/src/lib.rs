@@ -6,5 +6,8 @@
 pub mod calls;
 pub mod compare;
 pub mod edges;
+pub mod inputs;
+pub mod program;
 pub mod shape;
+pub mod station;
 pub mod wire;

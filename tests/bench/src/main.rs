@@ -4,63 +4,78 @@
 //!
 //! `bench --write FOLDER ..` runs nothing: it writes the N random cases to
 //! FOLDER/stdin and the answers that are expected to FOLDER/stdout, for `rt` to run.
+//!
+//! `bench --station WORD.. --inputs N --seed S` runs the station program on the
+//! whole inputs at the limits and on N random ones, each in a run of its own.
 
 use bench::calls::{chosen, Call, CALLS};
 use bench::compare::{compare, edge_questions, random_questions, Difference, Question, Tally};
+use bench::program::start;
+use bench::station;
 use std::io::{BufReader, Write};
+use std::iter::Peekable;
 use std::path::{Path, PathBuf};
-use std::process::{Child, ChildStdin, Command, ExitCode, Stdio};
+use std::process::{ChildStdin, ExitCode};
 use std::sync::mpsc::{channel, Sender};
 use std::thread;
 
 const USAGE: &str =
-    "usage: bench (--program WORD.. | --write FOLDER) --cases N --seed S [--calls 1-6]";
+    "usage: bench (--program WORD.. | --write FOLDER) --cases N --seed S [--calls 1-6]
+       bench --station WORD.. --inputs N --seed S";
+
+enum Mode {
+    Program(Vec<String>),
+    Write(PathBuf),
+    Station(Vec<String>),
+}
 
 struct Wanted {
-    program: Vec<String>,
-    folder: Option<PathBuf>,
+    mode: Mode,
     cases: usize,
     seed: u64,
     calls: Vec<&'static Call>,
 }
 
+/// The words up to the next option: a program and its arguments.
+fn program(words: &mut Peekable<impl Iterator<Item = String>>) -> Option<Vec<String>> {
+    let mut program = Vec::new();
+    while let Some(part) = words.next_if(|next| !next.starts_with("--")) {
+        program.push(part);
+    }
+    (!program.is_empty()).then_some(program)
+}
+
 /// None if the words are not those of the usage.
 fn wanted(words: impl Iterator<Item = String>) -> Option<Wanted> {
     let mut words = words.peekable();
-    let (mut program, mut folder, mut cases, mut seed) = (Vec::new(), None, None, None);
-    let mut calls = CALLS.iter().collect();
+    let (mut modes, mut cases, mut inputs, mut seed) = (Vec::new(), None, None, None);
+    let mut calls = None;
     while let Some(word) = words.next() {
         match word.as_str() {
-            "--program" => {
-                while let Some(part) = words.next_if(|next| !next.starts_with("--")) {
-                    program.push(part);
-                }
-            }
-            "--write" => folder = Some(PathBuf::from(words.next()?)),
+            "--program" => modes.push(Mode::Program(program(&mut words)?)),
+            "--station" => modes.push(Mode::Station(program(&mut words)?)),
+            "--write" => modes.push(Mode::Write(PathBuf::from(words.next()?))),
             "--cases" => cases = Some(words.next()?.parse().ok()?),
+            "--inputs" => inputs = Some(words.next()?.parse().ok()?),
             "--seed" => seed = Some(words.next()?.parse().ok()?),
-            "--calls" => calls = chosen(&words.next()?)?,
+            "--calls" => calls = Some(chosen(&words.next()?)?),
             _ => return None,
         }
     }
-    if program.is_empty() == folder.is_none() {
+    let mode = modes.pop()?;
+    let of_calls = !matches!(mode, Mode::Station(_));
+    if !modes.is_empty() || cases.is_some() != of_calls || inputs.is_some() == of_calls {
+        return None;
+    }
+    if calls.is_some() && !of_calls {
         return None;
     }
     Some(Wanted {
-        program,
-        folder,
-        cases: cases?,
+        mode,
+        cases: cases.or(inputs)?,
         seed: seed?,
-        calls,
+        calls: calls.unwrap_or_else(|| CALLS.iter().collect()),
     })
-}
-
-fn start(program: &[String]) -> std::io::Result<Child> {
-    Command::new(&program[0])
-        .args(&program[1..])
-        .stdin(Stdio::piped())
-        .stdout(Stdio::piped())
-        .spawn()
 }
 
 /// Writes the questions and hands them on, without waiting for an answer: a
@@ -87,12 +102,12 @@ fn write(folder: &Path, all: impl Iterator<Item = Question>) -> std::io::Result<
     std::fs::write(folder.join("stdout"), output)
 }
 
-fn run(wanted: Wanted) -> std::io::Result<Result<Tally, Box<Difference>>> {
-    let mut child = start(&wanted.program)?;
+fn run(words: &[String], wanted: &Wanted) -> std::io::Result<Result<Tally, Box<Difference>>> {
+    let mut child = start(words)?;
     let input = child.stdin.take().expect("the input is a pipe");
     let mut output = BufReader::new(child.stdout.take().expect("the output is a pipe"));
     let random = random_questions(wanted.calls.clone(), wanted.cases, wanted.seed);
-    let all = edge_questions(wanted.calls).chain(random);
+    let all = edge_questions(wanted.calls.clone()).chain(random);
     let (hand_on, handed) = channel();
     let asking = thread::spawn(move || ask(all, input, hand_on));
     let verdict = compare(handed.into_iter(), &mut output)?;
@@ -111,38 +126,63 @@ fn run(wanted: Wanted) -> std::io::Result<Result<Tally, Box<Difference>>> {
     )))
 }
 
+/// The report of a mode, and how it exits.
+fn compared(words: &[String], wanted: &Wanted) -> std::io::Result<(String, u8)> {
+    let seed = wanted.seed;
+    Ok(match run(words, wanted)? {
+        Ok(tally) if tally.cases() == 0 => ("bench: not compared: there are no cases".into(), 2),
+        Ok(tally) => {
+            let cases = tally.cases();
+            (format!("{tally}bench: {cases} cases agree, seed {seed}"), 0)
+        }
+        Err(difference) => {
+            let report = format!("{difference}\nbench: the answers differ, seed {seed}");
+            (report, 1)
+        }
+    })
+}
+
+fn station_compared(words: &[String], wanted: &Wanted) -> std::io::Result<(String, u8)> {
+    let seed = wanted.seed;
+    Ok(match station::run(words, wanted.cases, seed)? {
+        Ok(tally) if !tally.missing().is_empty() => {
+            let missing = tally.missing();
+            (
+                format!("bench: not compared: no input shows {missing:?}"),
+                2,
+            )
+        }
+        Ok(tally) => {
+            let inputs = tally.inputs;
+            (
+                format!("{tally}bench: {inputs} inputs agree, seed {seed}"),
+                0,
+            )
+        }
+        Err(difference) => {
+            let report = format!("{difference}\nbench: the outputs differ, seed {seed}");
+            (report, 1)
+        }
+    })
+}
+
+fn written(folder: &Path, wanted: &Wanted) -> std::io::Result<(String, u8)> {
+    let random = random_questions(wanted.calls.clone(), wanted.cases, wanted.seed);
+    write(folder, random)?;
+    Ok((format!("bench: {} cases written", wanted.cases), 0))
+}
+
 fn main() -> ExitCode {
     let Some(wanted) = wanted(std::env::args().skip(1)) else {
         eprintln!("{USAGE}");
         return ExitCode::from(2);
     };
-    let seed = wanted.seed;
-    if let Some(folder) = &wanted.folder {
-        let random = random_questions(wanted.calls.clone(), wanted.cases, seed);
-        if let Err(error) = write(folder, random) {
-            println!("bench: not written: {error}");
-            return ExitCode::from(2);
-        }
-        return ExitCode::SUCCESS;
-    }
-    match run(wanted) {
-        Ok(Ok(tally)) if tally.cases() == 0 => {
-            println!("bench: not compared: there are no cases");
-            ExitCode::from(2)
-        }
-        Ok(Ok(tally)) => {
-            print!("{tally}");
-            println!("bench: {} cases agree, seed {seed}", tally.cases());
-            ExitCode::SUCCESS
-        }
-        Ok(Err(difference)) => {
-            println!("{difference}");
-            println!("bench: the answers differ, seed {seed}");
-            ExitCode::from(1)
-        }
-        Err(error) => {
-            println!("bench: not compared: {error}");
-            ExitCode::from(2)
-        }
-    }
+    let ended = match &wanted.mode {
+        Mode::Program(words) => compared(words, &wanted),
+        Mode::Station(words) => station_compared(words, &wanted),
+        Mode::Write(folder) => written(folder, &wanted),
+    };
+    let (report, code) = ended.unwrap_or_else(|error| (format!("bench: not done: {error}"), 2));
+    println!("{report}");
+    ExitCode::from(code)
 }

@@ -1,0 +1,138 @@
+//! Whole inputs of the station program.
+
+use second::case::Case;
+use second::generate::{marking_image, station_case, table_image};
+use second::rng::Rng;
+use second::{fresh, station, Relation, Table};
+use std::collections::BTreeSet;
+
+/// What the station can refuse an input with.
+pub const REFUSALS: [u8; 8] = [1, 2, 3, 4, 5, 6, 7, 14];
+
+/// What it can answer to a step.
+pub const ANSWERS: [u8; 7] = [0, 8, 9, 10, 11, 12, 15];
+
+const LONGEST_TRACE: usize = 4096;
+
+/// What an input shows: its refusal, or the answers to its steps.
+#[derive(Clone, Copy, PartialEq, Eq, PartialOrd, Ord, Debug)]
+pub enum Shown {
+    Refusal(u8),
+    Answer(u8),
+}
+
+/// All that can be shown.
+pub fn wanted() -> BTreeSet<Shown> {
+    let refusals = REFUSALS.into_iter().map(Shown::Refusal);
+    refusals
+        .chain(ANSWERS.into_iter().map(Shown::Answer))
+        .collect()
+}
+
+/// A single byte is a refusal: a record is 8 bytes, and there is one at least.
+/// Else the end marking, of as many events as the first 7 bits of the input say,
+/// follows on the answers.
+pub fn shown(input: &[u8], output: &[u8]) -> BTreeSet<Shown> {
+    if let [number] = output {
+        return [Shown::Refusal(*number)].into();
+    }
+    let records = 8 * usize::from(input[0] / 2);
+    let answers = &output[..output.len() - records];
+    answers.iter().copied().map(Shown::Answer).collect()
+}
+
+pub fn random(rng: &mut Rng) -> Vec<u8> {
+    match station_case(rng) {
+        Case::Station { input } => input,
+        _ => unreachable!("the case is the station's"),
+    }
+}
+
+/// A few inputs that together show all that can be shown.
+fn one_of_each() -> Vec<Vec<u8>> {
+    let mut rng = Rng::new(0);
+    let mut missing = wanted();
+    let mut inputs = Vec::new();
+    while !missing.is_empty() {
+        let input = random(&mut rng);
+        let shown = shown(&input, &station(&input));
+        if !missing.is_disjoint(&shown) {
+            missing = &missing - &shown;
+            inputs.push(input);
+        }
+    }
+    inputs
+}
+
+/// The images of a table of so many relations, which are condition, response,
+/// includes and excludes in turn, and of its fresh marking.
+fn images(events: usize, count: usize) -> Vec<u8> {
+    let mut table = Table::EMPTY;
+    (table.events, table.count, table.causable) = (events, count, u64::MAX);
+    for (number, relation) in table.relations.iter_mut().take(count).enumerate() {
+        let kind = 1 + (number % 4) as u8;
+        *relation = Relation {
+            kind,
+            left: (number % events) as u8,
+            right: (number / 4 % events) as u8,
+            bounded: kind == 1,
+            time: 0,
+        };
+    }
+    [table_image(&table), marking_image(&fresh(events).marking)].concat()
+}
+
+/// The images and steps of so many bytes: reports, and a tick now and then.
+fn with_steps(images: &[u8], bytes: usize) -> Vec<u8> {
+    let steps = (0..bytes).map(|place| match place / 2 % 5 {
+        4 => [2, 0][place % 2],
+        step => [1, step as u8][place % 2],
+    });
+    images.iter().copied().chain(steps).collect()
+}
+
+/// Inputs at the limits, the same in every run.
+pub fn edges() -> Vec<Vec<u8>> {
+    let mut inputs = one_of_each();
+    for (events, count) in [(1, 0), (5, 20), (64, 256)] {
+        let images = images(events, count);
+        // Every end within the header, and around the ends of table and marking.
+        let table = images.len() - 8 * events;
+        let ends = [table - 1, table, table + 1, images.len() - 1, images.len()];
+        inputs.extend(ends.map(|end| images[..end].to_vec()));
+        inputs.extend((0..4).map(|end| images[..end].to_vec()));
+        for steps in [1, LONGEST_TRACE - 1, LONGEST_TRACE, LONGEST_TRACE + 1] {
+            inputs.extend([2 * steps, 2 * steps + 1].map(|bytes| with_steps(&images, bytes)));
+        }
+        // Far past what is kept, even and odd.
+        inputs.extend([5_000_000, 5_000_001].map(|bytes| with_steps(&images, bytes)));
+    }
+    inputs.push(vec![255; 3_000_000]);
+    inputs
+}
+
+#[cfg(test)]
+mod tests {
+    use super::*;
+
+    #[test]
+    fn the_edges_show_all_that_can_be_shown() {
+        let all = edges();
+        let seen: BTreeSet<Shown> = all
+            .iter()
+            .flat_map(|input| shown(input, &station(input)))
+            .collect();
+        assert_eq!(seen, wanted());
+        assert!(all.contains(&Vec::new()), "the empty input");
+    }
+
+    #[test]
+    fn a_full_input_is_granted_and_one_step_more_is_not() {
+        let images = images(64, 256);
+        let full = with_steps(&images, 2 * LONGEST_TRACE);
+        assert_eq!(full.len(), 10_308);
+        assert_eq!(station(&full).len(), LONGEST_TRACE + 8 * 64);
+        assert_eq!(station(&[&full[..], &[0, 0]].concat()), [14]);
+        assert_eq!(station(&[&full[..], &[0]].concat()), [1]);
+    }
+}
