@@ -1,7 +1,7 @@
 -- What the station's call writes, part by part: the answer to the whole input goes by the table, then the marking, then the steps, and of the
 -- bytes beyond the kept ones only the number counts. Assumes nothing.
 use mathlib.Core.Path.{_≡_, refl, _∙_, ap, sym, subst}
-use mathlib.Core.Bool.{Bool, true, false, not, _&&_, _||_, cond}
+use mathlib.Core.Bool.{Bool, true, false, not, _&&_, _||_}
 use mathlib.Core.List.{List, [], _∷_, _++_, append-nil, append-assoc}
 use mathlib.Core.Logic.{_⊎_, ⊎-elim, inl, inr}
 use Prim.Native.Nat.{ℕ, zero, suc, _<_, _≤_, _+_, _-_, _*_, _/_, _%_, min}
@@ -9,7 +9,7 @@ use native.Mathlib.Omega.{arith}
 use lib.Dec.{eqb, leb, ltb}
 use lib.ListN.{length, take, drop, getD, set, replicate, length-append, length-take, length-drop, length-replicate, drop-of-length-le}
 use lib.Seq.{take-all, take-take, take-append-le, take-at, drop-at, drop-drop}
-use borrow.Author.Tests.{eqb-true, eqb-false, eq-eqb, ne-eqb, ltb-true, ltb-false, lt-ltb, le-ltb, leb-true, leb-false}
+use borrow.Author.Tests.{eqb-true, eqb-false, ne-eqb, ltb-false, lt-ltb, le-ltb, leb-true, leb-false}
 use Rattle.rules.specs.declared.Table.{Table}
 use Rattle.rules.specs.declared.Marking.{Marking}
 use Rattle.rules.specs.declared.TableAnswer.{TableAnswer}
@@ -22,7 +22,7 @@ use Rattle.rules.specs.Trace.{traceNumber, stepsIn, endOf, answersOf}
 use Rattle.rules.specs.Station.{station}
 use Rattle.rules.specs.Laws.Tests.{decide, neither}
 use Rattle.rules.specs.Laws.Numbers.{if-done, both-done}
-use Rattle.rules.specs.Laws.Judge.{Good, good}
+use Rattle.rules.specs.Laws.Judge.{good}
 use Rattle.rules.specs.Laws.Fields.{field-lt, field-join, byte-field}
 use Rattle.rules.specs.Laws.Trace.{answers-length, steps-length, end-judged}
 use Rattle.rules.specs.Laws.Station.{longest, tableBytes, tablePart, markingPart, stepsPart, numberOf, stationNumber, station-is, too-long, granted-short, header-small, field-take, table-events, table-short, table-same, events-same, number-by, steps-left, same-answer}

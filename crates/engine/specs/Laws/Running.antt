@@ -1,17 +1,17 @@
 -- A run over a lent list of steps is the run of the definitions: between two steps it stands as the law of a trace says. Assumes nothing.
-use mathlib.Core.Path.{_≡_, refl, _∙_, ap, sym}
+use mathlib.Core.Path.{_≡_, refl, ap}
 use mathlib.Core.Bool.{Bool, true, false, _||_, cond}
 use mathlib.Core.List.{List, _++_}
 use Prim.Native.Nat.{ℕ, _<_, _≤_, _+_}
 use native.Mathlib.Omega.{arith}
 use lib.Dec.{eqb, ltb}
 use lib.ListN.{length, drop, getD, set}
-use borrow.Author.Tests.{eqb-true, ne-eqb, ltb-false}
+use borrow.Author.Tests.{eqb-true, ltb-false}
 use Rattle.rules.specs.declared.Table.{Table}
 use Rattle.rules.specs.declared.Marking.{Marking}
 use Rattle.rules.specs.declared.MarkingAnswer.{MarkingAnswer}
 use Rattle.rules.specs.declared.Step.{Step}
-use Rattle.rules.specs.Numbers.{_if_, _else_, done}
+use Rattle.rules.specs.Numbers.{_else_, done}
 use Rattle.rules.specs.Judge.{judged}
 use Rattle.rules.specs.Trace.{traceNumber, run, runAnswers, endOf, answersOf}
 use Rattle.rules.specs.Laws.Tests.{neither}

@@ -1,13 +1,13 @@
 -- One pass over an offered list finds the shortest start that discharges: nothing due, and the empty start is it; else the first event
 -- is caused, if it can be, and the rest of the list is searched from the marking after it. Assumes nothing.
 use mathlib.Core.Path.{_≡_, refl, _∙_, ap, sym}
-use mathlib.Core.Bool.{Bool, true, false, not, _&&_, cond}
+use mathlib.Core.Bool.{Bool, true, false, not, _&&_}
 use mathlib.Core.List.{List, [], _∷_}
 use mathlib.Core.Logic.{⊎-elim}
 use Prim.Native.Nat.{ℕ, zero, suc, _<_, _≤_, _+_}
 use native.Mathlib.Numerals.{add-one}
 use native.Mathlib.Omega.{arith}
-use lib.Dec.{leb, ltb}
+use lib.Dec.{ltb}
 use lib.ListN.{length, take, drop, getD, length-drop}
 use lib.Seq.{drop-cons, drop-length}
 use borrow.Author.Tests.{ne-eqb, lt-ltb, le-ltb, le-leb, lt-leb}
@@ -15,7 +15,6 @@ use Rattle.rules.specs.declared.Table.{Table}
 use Rattle.rules.specs.declared.Marking.{Marking}
 use Rattle.rules.specs.declared.RemedyAnswer.{RemedyAnswer}
 use Rattle.rules.specs.Counting.{lowest}
-use Rattle.rules.specs.Numbers.{_else_}
 use Rattle.rules.specs.Judge.{judged}
 use Rattle.rules.specs.Holds.{isCausable}
 use Rattle.rules.specs.Enabled.{isEnabled}

@@ -1,25 +1,21 @@
 -- What the station writes for an input longer than the largest that can be granted depends on its first bytes and its length alone: such an
 -- input is refused, and no number looks further. Assumes nothing.
 use mathlib.Core.Path.{_≡_, refl, _∙_, ap, sym}
-use mathlib.Core.Bool.{Bool, true, false, not, _&&_, _||_, cond}
+use mathlib.Core.Bool.{true, false, not, _&&_, _||_}
 use mathlib.Core.List.{List, [], _∷_, _++_}
 use mathlib.Core.Logic.{⊎-elim}
 use Prim.Native.Nat.{ℕ, zero, suc, _<_, _≤_, _+_, _-_, _*_, _/_, _%_}
 use native.Mathlib.Nat.{zero-add, suc-add}
 use native.Mathlib.Omega.{arith}
 use lib.Dec.{eqb, leb, ltb}
-use lib.ListN.{length, take, drop, getD, replicate, length-append, length-take, length-drop, length-replicate}
-use lib.Seq.{take-all, take-take, take-nil, drop-nil, getD-take, take-append-le, length-take-le}
+use lib.ListN.{length, take, drop, length-take, length-drop}
+use lib.Seq.{take-all, take-take, take-nil, drop-nil, getD-take}
 use borrow.Author.Tests.{eqb-true, eqb-false, leb-true, leb-false, ltb-false, ne-eqb}
-use Rattle.rules.specs.declared.Table.{Table}
-use Rattle.rules.specs.declared.Marking.{Marking}
-use Rattle.rules.specs.declared.TableAnswer.{TableAnswer}
-use Rattle.rules.specs.declared.MarkingAnswer.{MarkingAnswer}
 use Rattle.rules.specs.Numbers.{_if_, _else_, done}
-use Rattle.rules.specs.Fields.{bitAt, field}
+use Rattle.rules.specs.Fields.{field}
 use Rattle.rules.specs.Judge.{eventsFit, relationsFit, judged}
 use Rattle.rules.specs.Image.{eventsIn, relationsIn, headerSpare, tableLength, tableImageNumber, tableIn, readTable, recordBytes, markingImageNumber, readMarking, markingImage}
-use Rattle.rules.specs.Trace.{traceNumber, bytesNumber, stepsIn, endOf, answersOf}
+use Rattle.rules.specs.Trace.{traceNumber, stepsIn, endOf, answersOf}
 use Rattle.rules.specs.Station.{station}
 use Rattle.rules.specs.Laws.Fields.{field-lt}
 use Rattle.rules.specs.Laws.Tests.{decide, both, not-false, neither}

@@ -1,5 +1,5 @@
 -- The engine's promise says how many bytes were told, and that they are there. Assumes nothing.
-use mathlib.Core.Path.{_≡_, ap, sym}
+use mathlib.Core.Path.{ap, sym}
 use mathlib.Core.List.{List}
 use Prim.Native.Nat.{ℕ, _≤_}
 use native.Mathlib.Omega.{arith}
