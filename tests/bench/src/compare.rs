@@ -29,7 +29,7 @@ impl Question {
             payload: wire::payload(case),
             expected: wire::answer(case, &answer),
             number: answer.number(),
-            shapes: shape::of(case),
+            shapes: shape::of(case, &answer),
         }
     }
 

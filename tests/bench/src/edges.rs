@@ -3,7 +3,8 @@
 //! a record at each of its limits, faults where no call looks, and two faults at
 //! once, whose order decides the number.
 
-use second::case::Case;
+use crate::full;
+use second::case::{Case, Pair};
 use second::generate::{marking_image, table_image};
 use second::{Marking, Record, Relation, Table};
 
@@ -502,6 +503,78 @@ pub fn size() -> Vec<Case> {
 
 pub fn lowest() -> Vec<Case> {
     sets().into_iter().map(|set| Case::Lowest { set }).collect()
+}
+
+/// The pairs of the most events and relations, with each number asked about.
+fn full_cases(asked: &[usize], case: impl Fn(Pair, usize) -> Case) -> Vec<Case> {
+    let pairs = full::pairs().into_iter();
+    pairs
+        .flat_map(|pair| asked.iter().map(move |&number| (pair.clone(), number)))
+        .map(|(pair, number)| case(pair, number))
+        .collect()
+}
+
+const EVENTS_ASKED: [usize; 6] = [0, 1, 40, 63, 64, usize::MAX];
+const RELATIONS_ASKED: [usize; 8] = [0, 1, 62, 125, 189, 255, 256, usize::MAX];
+
+pub fn enabled() -> Vec<Case> {
+    full_cases(&EVENTS_ASKED, |pair, event| Case::Enabled { pair, event })
+}
+
+pub fn request() -> Vec<Case> {
+    full_cases(&EVENTS_ASKED, |pair, event| Case::Request { pair, event })
+}
+
+pub fn report() -> Vec<Case> {
+    full_cases(&EVENTS_ASKED, |pair, event| Case::Report { pair, event })
+}
+
+pub fn hold_up() -> Vec<Case> {
+    full_cases(&EVENTS_ASKED, |pair, event| Case::HoldUp { pair, event })
+}
+
+pub fn margin() -> Vec<Case> {
+    full_cases(&RELATIONS_ASKED, |pair, relation| Case::Margin {
+        pair,
+        relation,
+    })
+}
+
+/// The judging that every call of the engine does first is asked here: each
+/// table of `judge_table` with a sound marking, each marking of `judge_marking`
+/// with a sound table.
+pub fn due() -> Vec<Case> {
+    let of = |table: &Table, marking: &Marking| Case::Due {
+        pair: Pair {
+            table: Box::new(*table),
+            marking: Box::new(*marking),
+        },
+    };
+    let mut cases = full_cases(&[0], |pair, _| Case::Due { pair });
+    for case in judge_table().iter().chain(&judge_marking()) {
+        match case {
+            Case::JudgeTable { table: t } => cases.push(of(t, &marking(t.events))),
+            Case::JudgeMarking { events, marking } => cases.push(of(&table(*events, 9), marking)),
+            _ => {}
+        }
+    }
+    cases
+}
+
+pub fn plain_tick() -> Vec<Case> {
+    full_cases(&[0], |pair, _| Case::PlainTick { pair })
+}
+
+pub fn closure() -> Vec<Case> {
+    full_cases(&[0], |pair, _| Case::Closure { pair })
+}
+
+pub fn check() -> Vec<Case> {
+    full_cases(&[0], |pair, _| Case::Check { pair })
+}
+
+pub fn guarded_tick() -> Vec<Case> {
+    full_cases(&[0], |pair, _| Case::GuardedTick { pair })
 }
 
 #[cfg(test)]

@@ -6,8 +6,10 @@
 pub mod calls;
 pub mod compare;
 pub mod edges;
+pub mod full;
 pub mod inputs;
 pub mod program;
 pub mod shape;
+pub mod stack;
 pub mod station;
 pub mod wire;

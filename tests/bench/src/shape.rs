@@ -1,8 +1,8 @@
 //! What a case has in it, so that a run can show that it went where a guarded
 //! tick has much to do. Nothing is compared here.
 
-use second::case::{Case, Pair};
-use second::{check, due, guarded_tick, Record, Relation};
+use second::case::{Answer, Case, Pair};
+use second::{check, due, guarded_tick, HoldUpAnswer, MarginAnswer, Record, Relation};
 use std::collections::BTreeSet;
 
 const RESPONSE: u8 = 2;
@@ -116,15 +116,45 @@ const REASONS: [&str; 7] = [
     "reason 6",
 ];
 
-/// The words for what is in the case's table and marking, if it has both.
-pub fn of(case: &Case) -> Vec<&'static str> {
+fn of_pair(pair: &Pair) -> Vec<&'static str> {
+    let checked = check(&pair.table, &pair.marking);
+    match checked.number {
+        0 => of_accepted(pair),
+        12 => vec![REASONS[usize::from(checked.reason)]],
+        _ => Vec::new(),
+    }
+}
+
+fn of_margin(answer: &MarginAnswer) -> &'static str {
+    match answer {
+        MarginAnswer::Refused(_) => "refused",
+        MarginAnswer::NotACondition => "no condition",
+        MarginAnswer::Ignored => "ignored",
+        MarginAnswer::Never => "never",
+        MarginAnswer::By(..=-1) => "below zero",
+        MarginAnswer::By(0) => "zero",
+        MarginAnswer::By(_) => "above zero",
+    }
+}
+
+fn of_hold_up(answer: &HoldUpAnswer) -> &'static str {
+    match answer {
+        HoldUpAnswer::Refused(_) => "refused",
+        HoldUpAnswer::Enabled => "enabled",
+        HoldUpAnswer::Excluded => "excluded",
+        HoldUpAnswer::Blocked(_) => "blocked",
+    }
+}
+
+/// The words for what is in the case and its answer.
+pub fn of(case: &Case, answer: &Answer) -> Vec<&'static str> {
     let Some(pair) = case.pair() else {
         return Vec::new();
     };
-    let checked = check(&pair.table, &pair.marking);
-    let mut shapes = match checked.number {
-        0 => of_accepted(pair),
-        12 => vec![REASONS[usize::from(checked.reason)]],
+    let mut shapes = match (case, answer) {
+        (Case::Closure { .. } | Case::Check { .. } | Case::GuardedTick { .. }, _) => of_pair(pair),
+        (_, Answer::Margin(margin)) => vec![of_margin(margin)],
+        (_, Answer::HoldUp(hold_up)) => vec![of_hold_up(hold_up)],
         _ => Vec::new(),
     };
     if past_an_image(pair) {
