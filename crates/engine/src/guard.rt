@@ -6,7 +6,6 @@ use crate::time;
 use crate::word;
 use rules::GuardedAnswer;
 use rules::Marking;
-use rules::Record;
 use rules::Table;
 ghost use mathlib.Core.Path.{_≡_};
 ghost use Prim.Native.Nat.{ℕ, _<_, _^_};

@@ -1,7 +1,6 @@
 // The inhibitors of each event, as 64 words, and what follows from them.
 use crate::event_set;
 use crate::word;
-use rules::Record;
 use rules::Relation;
 use rules::Table;
 ghost use mathlib.Core.Path.{_≡_};

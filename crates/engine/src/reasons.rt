@@ -5,7 +5,6 @@ use crate::inhibition;
 use crate::word;
 use rules::CheckAnswer;
 use rules::Marking;
-use rules::Record;
 use rules::Relation;
 use rules::Table;
 ghost use mathlib.Core.Path.{_≡_};

@@ -19,7 +19,6 @@ pub mod Needed
 pub mod Order
 pub mod Taken
 pub mod Turns
-pub mod Kept
 pub mod Remedy
 pub mod Trace
 pub mod Station

@@ -22,7 +22,7 @@ use Rattle.rules.specs.Counting.{lowest}
 use Rattle.rules.specs.EventSet.{has, setOf}
 use Rattle.rules.specs.Holds.{recordOf}
 use Rattle.rules.specs.Effect.{effect}
-use Rattle.rules.specs.Time.{isDue, dueSet, time}
+use Rattle.rules.specs.Time.{time}
 use Rattle.rules.specs.Judge.{judged}
 use Rattle.rules.specs.Closure.{follows}
 use Rattle.rules.specs.Check.{reason, verdict, check}
@@ -30,21 +30,17 @@ use Rattle.rules.specs.Guard.{ready, orderOf, order, taken, takenAll, executedO
 use Rattle.rules.specs.Laws.Tests.{both}
 use Rattle.rules.specs.Laws.Counting.{Found, Lacks, lowest-cases}
 use Rattle.rules.specs.Laws.Turns.{worth-le}
-use Rattle.rules.specs.Laws.EventSet.{set-has, set-holds, set-lt-power}
+use Rattle.rules.specs.Laws.EventSet.{set-has, set-holds}
 use Rattle.rules.specs.Laws.Time.{set-empty}
 use Rattle.rules.specs.Laws.Words.{has-and}
 use Rattle.rules.specs.Laws.Judge.{GoodTable, GoodMarking, Good, good}
-use Rattle.rules.specs.Laws.Kept.{effect-good}
+use Rattle.rules.specs.Demand3.Facts.{effect-good}
 use Rattle.rules.specs.Laws.Widened.{has-below}
 use Rattle.engine.specs.declared.inhibition.Choice.the-variants.{Ready}
 use Rattle.engine.specs.Rows.{everyEvent, Rows, isChosen, selected}
 use Rattle.engine.specs.Taking.{answered, nothing, noted, takenOne, carriedOn, afterTick}
 use Rattle.engine.specs.Laws.Followed.{rows-follow}
 use Rattle.engine.specs.Laws.Reasons.{set-by-test}
-
-pub due-fits : (t : Table) (m : Marking) → Good t m → dueSet m < 2 ^ t .events
-unfolding dueSet
-due-fits t m g = subst (λ (n : ℕ). dueSet m < 2 ^ n) (g .marking-good .same-events) (set-lt-power (λ e. isDue (recordOf m e)) (m .events))
 
 -- The next ready event.
 module _ (t : Table) (good : GoodTable t) (rows : List ℕ) (made : Rows t everyEvent everyEvent (t .count) rows) (untaken : ℕ) (fits : untaken < 2 ^ t .events) where

@@ -20,7 +20,7 @@ use Rattle.rules.specs.Time.{later, time}
 use Rattle.rules.specs.Laws.Tests.{clash, denied, both, join}
 use Rattle.rules.specs.Laws.Counting.{some-where, length-each-below, each-below-changed}
 use Rattle.rules.specs.Laws.Numbers.{if-kept, both-done, first-done}
-use Rattle.rules.specs.Laws.Judge.{GoodTable, good}
+use Rattle.rules.specs.Laws.Judge.{GoodTable, Good, good}
 use Rattle.rules.specs.Demand3.Response.{asked, Responds, response-gives}
 use Rattle.rules.specs.Demand3.Records.{underDeadline, ranOut, at-included, at-happened, at-age, at-pending, at-under, at-out, at-response, at-fits, at-undisturbed, later-fits}
 
@@ -190,7 +190,17 @@ module _ (m : Marking) (x : ℕ) (b : x < m .events) where
   pub time-fits : recordFits (recordOf m x) ≡ true → recordFits (recordOf (time m) x) ≡ true
   time-fits h = subst (λ r. recordFits r ≡ true) (sym at-time) (later-fits (recordOf m x) h)
 
--- V, for the whole: a marking that is judged 'done' still is.
+-- V, for the whole: a marking that is good, or judged 'done', still is.
+pub effect-good : (t : Table) (m : Marking) (e : ℕ) → Good t m → Good t (effect t m e)
+unfolding effect
+effect-good t m e g = record {
+  table-good = g .table-good;
+  marking-good = record {
+    same-events = g .marking-good .same-events;
+    records-fit = λ x b. effect-fits t m e x (rw (g .marking-good .same-events) b) (g .table-good) (g .marking-good .records-fit x b);
+  };
+}
+
 again : (t : Table) (m n : Marking) → judged t m ≡ 0 → n .events ≡ m .events
     → ((x : ℕ) → x < m .events → recordFits (recordOf m x) ≡ true → recordFits (recordOf n x) ≡ true) → judged t n ≡ 0
 unfolding judged markingNumberFor markingNumber

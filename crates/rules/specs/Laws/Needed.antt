@@ -34,7 +34,7 @@ module _ (t : Table) (good : GoodTable t) (m : Marking) (same : m .events ≡ t 
   abbrev due : ℕ → Bool
   due x = isDue (recordOf m x)
 
-  due-fits : dueSet m < 2 ^ t .events
+  pub due-fits : dueSet m < 2 ^ t .events
   unfolding dueSet
   due-fits = subst (λ (n : ℕ). dueSet m < 2 ^ n) same (set-lt-power due (m .events))
 

@@ -7,9 +7,9 @@ use Rattle.rules.specs.Holds.{relationOf, recordOf}
 use Rattle.rules.specs.Time.{dueSet}
 use Rattle.rules.specs.Closure.{followed}
 use Rattle.rules.specs.Guard.{holdsBack, needed}
+use Rattle.rules.specs.Laws.Needed.{due-fits}
 use Rattle.engine.specs.Rows.{joined}
 use Rattle.engine.specs.Laws.Followed.{joined-fully, holding-back}
-use Rattle.engine.specs.Laws.Taking.{due-fits}
 use Rattle.engine.proofs.guard.needed.Statement.{statement}
 use Rattle.engine.proofs.guard.needed.Tie as tie
 
@@ -40,7 +40,7 @@ returns c =
     ∙ ap (repeated (t .events) (joined (c .before .before .inhibitors .result))) (c .before .due-set .ensures)
     ∙ joined-fully t good _ _ (c .before .before .inhibitors .result) made
     (λ k. followed (relationOf t k) && holdsBack (relationOf t k) (recordOf m (relationOf t k .right)))
-    (holding-back t good m (s .pre .marking-good .same-events)) (dueSet m) (due-fits t m (s .pre))
+    (holding-back t good m (s .pre .marking-good .same-events)) (dueSet m) (due-fits t good m (s .pre .marking-good .same-events))
 
 pub needed-spec : {M : Type 1} → statement M
 needed-spec = tie.close (tie.spec marked-requires marked-requires-2 inhibitors-requires due-set-requires joined-fully-requires returns)
