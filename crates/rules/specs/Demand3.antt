@@ -1,5 +1,5 @@
 -- Demand 3 as a theorem. Statements is the part to read, with Promise, History and the records of Deadline that it is written in; the others
--- lead up to it, each resting on those above it. Calls says the same to a caller; Needed and Worked are computed.
+-- lead up to it, each resting on those above it. Calls and Runner say the same to a caller; Needed and Worked are computed.
 pub mod Response
 pub mod Records
 pub mod Facts
@@ -12,5 +12,6 @@ pub mod History
 pub mod Deadline
 pub mod Statements
 pub mod Calls
+pub mod Runner
 pub mod Needed
 pub mod Worked

@@ -63,7 +63,7 @@ module _ (t : Table) (m : Marking) (accepted : check t m ≡ Accepts) where
   guarded-step = rw (accepted, check-parts t m accepted .1)
 
   -- one step more
-  accepted-on : (s : Step) → check t (stepped t m s) ≡ Accepts
+  pub accepted-on : (s : Step) → check t (stepped t m s) ≡ Accepts
   unfolding endOf
   accepted-on s = still-accepts t m accepted (s ∷ [])
 
@@ -124,13 +124,15 @@ answered t m accepted p heard =
       heard = λ e answer is h. heard e (sym (ap (λ (a : MarkingAnswer). a .number) is) ∙ h);
     }
 
+-- after any steps
+pub answered-after : (t : Table) (m : Marking) → check t m ≡ Accepts → (steps : List Step) → Answered t (endOf t m steps)
+answered-after t m accepted steps =
+    answered t (endOf t m steps) (still-accepts t m accepted steps) (guarded-tick t m accepted steps) (report-never-10 t m accepted steps)
+
 -- 5. From a marking that the check accepts, a caller's chain of calls ends where the trace of its steps ends, and there the answers are as above.
 pub chain : (t : Table) (m end : Marking) (steps : List Step) → (answer : CheckAnswer) → answer ≡ check t m → answer ≡ Accepts
     → Calls t m steps end → (end ≡ endOf t m steps) × Answered t end
 chain t m end steps answer is accepts calls =
     let accepted : check t m ≡ Accepts = sym is ∙ accepts in
-    let same = calls-end t calls accepted in (
-      same,
-      subst (Answered t) (sym same)
-          (answered t (endOf t m steps) (still-accepts t m accepted steps) (guarded-tick t m accepted steps) (report-never-10 t m accepted steps)),
-    )
+    let same = calls-end t calls accepted in
+    (same, subst (Answered t) (sym same) (answered-after t m accepted steps))
