@@ -1,5 +1,5 @@
--- Document 01's worked cases, those marked (P), and a case for each of its 'Mistakes that look reasonable', by one statement over a table
--- of cases: each answer is computed from the definitions and is the one that the paper tells. Assumes nothing.
+-- Document 01's worked cases, those marked (P), a case for each of its 'Mistakes that look reasonable', and cases that a promise turns on, by
+-- one statement over a table of cases: each answer is computed from the definitions and is the one that the paper tells. Assumes nothing.
 use mathlib.Core.Path.{_≡_, refl}
 use mathlib.Core.Bool.{Bool, true, false, cond}
 use mathlib.Core.List.{List, [], _∷_, _++_, map}
@@ -11,11 +11,13 @@ use Rattle.rules.specs.declared.Table.{Table}
 use Rattle.rules.specs.declared.Record.{Record}
 use Rattle.rules.specs.declared.Marking.{Marking}
 use Rattle.rules.specs.declared.Step.{Step}
+use Rattle.rules.specs.declared.MarkingAnswer.{MarkingAnswer}
+use Rattle.rules.specs.declared.EnabledAnswer.{EnabledAnswer}
 use Rattle.rules.specs.declared.SetAnswer.{SetAnswer}
 use Rattle.rules.specs.declared.MarginAnswer.{MarginAnswer}
-use Rattle.rules.specs.declared.MarginAnswer.the-variants.{By}
+use Rattle.rules.specs.declared.MarginAnswer.the-variants.{NotACondition, Never, By}
 use Rattle.rules.specs.declared.HoldUpAnswer.{HoldUpAnswer}
-use Rattle.rules.specs.declared.HoldUpAnswer.the-variants.{Blocked}
+use Rattle.rules.specs.declared.HoldUpAnswer.the-variants.{Excluded, Blocked}
 use Rattle.rules.specs.declared.CheckAnswer.{CheckAnswer}
 use Rattle.rules.specs.declared.CheckAnswer.the-variants.{Accepts, Rejects}
 use Rattle.rules.specs.declared.GuardedAnswer.{GuardedAnswer}
@@ -23,21 +25,21 @@ use Rattle.rules.specs.declared.RemedyAnswer.{RemedyAnswer}
 use Rattle.rules.specs.Counting.{every, some, lowest, howMany, repeated, placesFrom, belowFrom}
 use Rattle.rules.specs.Numbers.{firstOf}
 use Rattle.rules.specs.EventSet.{has, setOf, sizeOf, lowestOf}
-use Rattle.rules.specs.Holds.{recordOf}
+use Rattle.rules.specs.Holds.{emptyRecord, emptyMarking, recordOf}
 use Rattle.rules.specs.Fields.{field, bytesOf}
 use Rattle.rules.specs.Judge.{timeFits, relationNumber, tableNumber, recordFits, markingNumber, markingNumberFor, judged}
-use Rattle.rules.specs.Image.{relationAt, relationImageNumber, tableImageNumber, tableIn, readTable, recordAt, markingImageNumber, readMarking, recordImage, recordImages, markingImage}
-use Rattle.rules.specs.Enabled.{stops, blocks, isEnabled}
+use Rattle.rules.specs.Image.{relationAt, relationImageNumber, tableImageNumber, tableIn, readTable, recordAt, markingImageNumber, readMarking, recordImage, recordImages, markingImage, writeNumber, writeMarking, fresh}
+use Rattle.rules.specs.Enabled.{stops, blocks, isEnabled, enabledAnswer}
 use Rattle.rules.specs.Effect.{withDeadline, excludes, includes, given, smallest, executed, withInclusion, effectAt, effect}
-use Rattle.rules.specs.Time.{isDue, anyDue, dueSet, later, time, plainTickNumber, plainTick}
-use Rattle.rules.specs.Ask.{requestNumber, reportNumber, request}
+use Rattle.rules.specs.Time.{isDue, anyDue, dueSet, later, time, plainTickNumber, plainTick, dueAnswer}
+use Rattle.rules.specs.Ask.{requestNumber, reportNumber, request, report}
 use Rattle.rules.specs.Margin.{marginOf, margin}
 use Rattle.rules.specs.HoldUp.{holdUpOf, holdUp}
 use Rattle.rules.specs.Closure.{busy, follows, widened, widenedFully, closure, closureAnswer}
 use Rattle.rules.specs.Check.{unreportable, uncausable, waiting, awaited, onCycle, reopening, reviving, verdict, check}
 use Rattle.rules.specs.Guard.{holdsBack, needed, ready, orderOf, taken, takenAll, executedOf, caused, guarded, guardedTick}
 use Rattle.rules.specs.Remedy.{inTurn, effects, discharges, shortest, remedyNumber, remedy}
-use Rattle.rules.specs.Trace.{stepNumber, stepDone, stepped, endOf, answersOf, traceNumber, stepsIn}
+use Rattle.rules.specs.Trace.{stepNumber, stepDone, stepped, endOf, answersOf, traceNumber, stepsIn, runBytes, runBytesAnswers}
 use Rattle.rules.specs.Station.{station}
 use Rattle.rules.specs.Shop as shop
 
@@ -54,6 +56,20 @@ pub data Question : Type 0 where
   state : ℕ → Question
   stateBytes : ℕ → Question
   causedAlong : List Step → Question
+  imageRead : ℕ → List ℕ → Question
+  bufferWritten : List ℕ → Question
+  startedFresh : ℕ → Question
+  tableJudged : Question
+  markingJudged : ℕ → Question
+  sizeAsked : ℕ → Question
+  lowestAsked : ℕ → Question
+  enabledNow : ℕ → Question
+  dueNow : Question
+  reported : ℕ → Question
+  aged : ℕ → Question
+  runOf : List ℕ → ℕ → Question
+  runBuffer : List ℕ → List ℕ → Question
+  heard : List ℕ → Question
 
 pub data Answer : Type 0 where
   verdicts : CheckAnswer → Answer
@@ -66,6 +82,8 @@ pub data Answer : Type 0 where
   is : Record → Answer
   bytes : List ℕ → Answer
   events : List ℕ → Answer
+  marks : MarkingAnswer → Answer
+  enables : EnabledAnswer → Answer
 
 pub record Case : Type 0 where
   pub table : Table
@@ -90,6 +108,20 @@ answer t m (margins k) = by (margin t m k)
 answer t m (state e) = is (recordOf m e)
 answer t m (stateBytes e) = bytes (recordImage (recordOf m e))
 answer t m (causedAlong steps) = events (causedIn t m steps)
+answer t m (imageRead n image) = marks (readMarking n image)
+answer t m (bufferWritten buffer) = bytes (writeMarking m buffer)
+answer t m (startedFresh n) = marks (fresh n)
+answer t m tableJudged = number (tableNumber t)
+answer t m (markingJudged n) = number (markingNumberFor n m)
+answer t m (sizeAsked w) = number (sizeOf w)
+answer t m (lowestAsked w) = number (lowestOf w)
+answer t m (enabledNow e) = enables (enabledAnswer t m e)
+answer t m dueNow = set (dueAnswer t m)
+answer t m (reported e) = marks (report t m e)
+answer t m (aged e) = is (recordOf (plainTick t m .marking) e)
+answer t m (runOf steps room) = marks (runBytes t m steps room)
+answer t m (runBuffer steps buffer) = bytes (runBytesAnswers t m steps buffer)
+answer t m (heard input) = bytes (station input)
 
 abbrev asks : Table → Marking → Question → Answer → Case
 asks t m q a = record { table = t; marking = m; asked = q; told = a }
@@ -185,10 +217,71 @@ mistakes =
     bothDueOneIdle : Marking
     bothDueOneIdle = shop.marking (shop.pendingWithin true 0 ∷ shop.pendingWithin true 0 ∷ shop.idle ∷ [])
 
+-- For public calls: questions on which an engine that looks reasonable would answer otherwise.
+unfoldable pub turning : List Case
+turning =
+    -- read_marking: 3 comes first. Not 1
+    after [] (imageRead 0 (7 ∷ [])) (marks (refusal 3 emptyMarking))
+    -- write_marking: a refusal writes nothing. Not a first byte
+    ∷ after [] (bufferWritten (9 ∷ 9 ∷ [])) (bytes (9 ∷ 9 ∷ []))
+    -- fresh: included, and a place past the count is 0. Not excluded; not a fresh record; 65 events are not 64
+    ∷ after [] (startedFresh 2) (marks (record { number = 0; marking = shop.marking (shop.idle ∷ shop.idle ∷ []) }))
+    ∷ after [] (startedFresh 65) (marks (refusal 3 emptyMarking))
+    -- judge_table: 4 before 5; a bounded response of time 0 is none. Not 5; not 0
+    ∷ asks (shop.table 1 1 1 (record { kind = 9; left = 200; right = 0; bounded = false; time = 0 } ∷ [])) shop.start tableJudged (number 4)
+    ∷ asks (shop.table 1 1 1 (shop.response 0 0 0 ∷ [])) shop.start tableJudged (number 6)
+    -- judge_marking: 1 before 7; a deadline without a bound. Not 7; not 0
+    ∷ asks shop.P (shop.marking (unbound ∷ [])) (markingJudged 2) (number 1)
+    ∷ asks shop.P (shop.marking (unbound ∷ [])) (markingJudged 1) (number 7)
+    -- size, lowest: the topmost event counts; 64 for none. Not 1; not 0; not the highest, 3
+    ∷ after [] (sizeAsked (2 ^ 63 + 1)) (number 2)
+    ∷ after [] (sizeAsked 0) (number 0)
+    ∷ after [] (lowestAsked 0) (number 64)
+    ∷ after [] (lowestAsked 12) (number 2)
+    -- enabled: false in a refusal; an excluded right does not block. Not true; not false
+    ∷ after [] (enabledNow 5) (enables (record { number = 8; enabled = false }))
+    ∷ asks shop.waits5 (shop.marking (shop.idle ∷ shop.excluded ∷ [])) (enabledNow 0) (enables (record { number = 0; enabled = true }))
+    -- due: bounded only. Not event 0
+    ∷ asks shop.waits5 (shop.marking (unbounded ∷ shop.pendingWithin true 0 ∷ [])) dueNow (setIs 2)
+    -- report: of a controllable event 9, and the marking handed in comes back. Not 10; not a changed marking
+    ∷ after [] (reported 1) (marks (refusal 9 shop.start))
+    ∷ after [] (reported 9) (marks (refusal 8 shop.start))
+    -- plain_tick: a place past the count is kept. Not aged
+    ∷ asks shop.waits5 (record { records = replicate 64 (shop.happened 3); events = 2 }) (aged 2) (is (shop.happened 3))
+    -- margin: never is no number; a milestone has none. Not 0; not never
+    ∷ asks shop.waits5 (shop.marking (shop.idle ∷ shop.idle ∷ [])) (margins 0) (by Never)
+    ∷ after [] (margins 4) (by NotACondition)
+    -- hold_up: excluded, though also blocked. Not blocked by relation 1
+    ∷ after [] (held 1) (hold Excluded)
+    -- closure: an excluded event with a deadline is busy; an eventual response makes none busy. Not left out; not event 1
+    ∷ asks (shop.table 2 3 3 (shop.eventually 0 1 ∷ [])) (shop.marking (shop.pendingWithin false 5 ∷ shop.idle ∷ [])) closed (setIs 1)
+    -- check: the lowest reason, not a later one that also applies; the lowest event ON a cycle, not one that only leads into it
+    ∷ asks (shop.table 2 2 0 (shop.excludes 0 0 ∷ shop.response 1 1 1 ∷ [])) (shop.marking (shop.idle ∷ shop.idle ∷ [])) checked (verdicts (Rejects 1 0))
+    ∷ asks intoCycle (shop.marking (shop.pendingWithin true 5 ∷ shop.idle ∷ shop.idle ∷ [])) checked (verdicts (Rejects 4 1))
+    -- run_bytes: an odd byte gives 1 before 14; a byte past the steps stays; a wrong kind is 15 and the run goes on
+    ∷ after [] (runOf (3 ∷ []) 0) (marks (refusal 1 shop.start))
+    ∷ after [] (runBuffer (4 ∷ 0 ∷ 1 ∷ 1 ∷ []) (7 ∷ 7 ∷ 7 ∷ [])) (bytes (15 ∷ 9 ∷ 7 ∷ []))
+    ∷ after [] (runBuffer (3 ∷ 0 ∷ 3 ∷ 0 ∷ []) (7 ∷ [])) (bytes (7 ∷ []))
+    -- station: an empty input is too short for a table. Not nothing
+    ∷ after [] (heard []) (bytes (1 ∷ []))
+    ∷ []
+  where
+    refusal : ℕ → Marking → MarkingAnswer
+    refusal n m = record { number = n; marking = m }
+
+    unbound : Record
+    unbound = record { age = 0; deadline = 4; happened = false; included = true; pending = true; bounded = false }
+
+    unbounded : Record
+    unbounded = record { age = 0; deadline = 0; happened = false; included = true; pending = true; bounded = false }
+
+    intoCycle : Table
+    intoCycle = shop.table 3 7 7 (shop.condition 0 1 0 ∷ shop.condition 1 2 0 ∷ shop.condition 2 1 0 ∷ [])
+
 unfoldable pub cases : List Case
-cases = worked ++ mistakes
+cases = worked ++ mistakes ++ turning
 
 -- every case is answered as told
 pub told-right : map (λ c. answer (c .table) (c .marking) (c .asked)) cases ≡ map (λ c. c .told) cases
-unfolding cases worked mistakes answer causedIn every some lowest howMany repeated placesFrom belowFrom firstOf has setOf sizeOf lowestOf field bytesOf timeFits relationNumber tableNumber recordFits markingNumber markingNumberFor judged relationAt relationImageNumber tableImageNumber tableIn readTable recordAt markingImageNumber readMarking recordImage recordImages stops blocks isEnabled withDeadline excludes includes given smallest executed withInclusion effectAt effect isDue anyDue dueSet later time plainTickNumber plainTick requestNumber reportNumber request marginOf margin holdUpOf holdUp busy follows widened widenedFully closure closureAnswer unreportable uncausable waiting awaited onCycle reopening reviving verdict check holdsBack needed ready orderOf taken takenAll executedOf caused guarded guardedTick inTurn effects discharges shortest remedyNumber remedy stepNumber stepDone stepped endOf answersOf traceNumber stepsIn station
+unfolding cases worked mistakes turning answer causedIn every some lowest howMany repeated placesFrom belowFrom firstOf has setOf sizeOf lowestOf field bytesOf timeFits relationNumber tableNumber recordFits markingNumber markingNumberFor judged relationAt relationImageNumber tableImageNumber tableIn readTable recordAt markingImageNumber readMarking recordImage recordImages stops blocks isEnabled withDeadline excludes includes given smallest executed withInclusion effectAt effect isDue anyDue dueSet later time plainTickNumber plainTick requestNumber reportNumber request marginOf margin holdUpOf holdUp busy follows widened widenedFully closure closureAnswer unreportable uncausable waiting awaited onCycle reopening reviving verdict check holdsBack needed ready orderOf taken takenAll executedOf caused guarded guardedTick inTurn effects discharges shortest remedyNumber remedy stepNumber stepDone stepped endOf answersOf traceNumber stepsIn station writeNumber writeMarking fresh enabledAnswer dueAnswer report runBytes runBytesAnswers
 told-right = refl
