@@ -1,4 +1,4 @@
-// Calls 19 and 21: the engine's that are lent lists. Behind the table and the marking stands a list with its length before it, 2 bytes;
+// Calls 19 to 21: the engine's that are lent lists. Behind the table and the marking stands a list with its length before it, 2 bytes;
 // what is left of the payload is the other list.
 use crate::answer;
 use crate::answer::START;
@@ -7,7 +7,13 @@ use crate::engine_calls;
 use crate::marking;
 use crate::table;
 use rules::Marking;
+use rules::MarkingAnswer;
+use rules::Step;
 use rules::Table;
+ghost use mathlib.Core.Path.{_≡_};
+ghost use Prim.Native.Nat.{_≤_};
+ghost use lib.ListN.{length, take};
+ghost use Rattle.rules.specs.Trace.{run, runAnswers};
 
 pub const FIRST: u8 = 19;
 
@@ -45,8 +51,55 @@ fn remedies(s: &[u8], out: &mut [u8]) -> usize {
     10 + stretch.len()
 }
 
+// More places than the longest granted trace has steps, 4,096: a longer one comes to the runner too, and is refused there.
+const PLACES: usize = 4200;
+
+// As many steps as there are places for.
+fn placed(n: usize) -> usize
+    ensures { λ r. ⌜ r ≤ 4200 ⌝ }
+{
+    if n < PLACES { n } else { PLACES }
+}
+
+// The steps of a list; those it does not have are 0.
+fn steps_of(list: &[u8]) -> [Step; PLACES] {
+    let nothing = Step { kind: 0, event: 0 };
+    let mut steps = [nothing; PLACES];
+    let mut i = 0;
+    while i < PLACES {
+        steps[i] = Step {
+            kind: bytes::byte_at(list, i * 2),
+            event: bytes::byte_at(list, i * 2 + 1),
+        };
+        i += 1;
+    }
+    steps
+}
+
+// The first n steps are lent to the runner.
+fn run_steps(
+    steps: [Step; PLACES],
+    n: usize,
+    t: Table,
+    m: Marking,
+    answers: &mut [u8],
+) -> MarkingAnswer
+    requires { ⌜ n ≤ 4200 ⌝ }
+    ensures { λ r. ⌜ (r ≡ run t m (take n steps) (length (now (answers .entry)))) × (now (answers .exit) ≡ runAnswers t m (take n steps) (now (answers .entry))) ⌝ }
+{
+    engine::run(t, m, &steps[..n], answers)
+}
+
+// The runner over bytes, or over steps.
+fn ran(over_bytes: bool, t: Table, m: Marking, list: &[u8], answers: &mut [u8]) -> MarkingAnswer {
+    if over_bytes {
+        return engine::run_bytes(t, m, list, answers);
+    }
+    run_steps(steps_of(list), placed(list.len() / 2), t, m, answers)
+}
+
 // The answer bytes' buffer is the part of `out` behind the number and the marking.
-fn run_bytes(s: &[u8], out: &mut [u8]) -> usize {
+fn run(over_bytes: bool, s: &[u8], out: &mut [u8]) -> usize {
     let t = engine_calls::table_of(s);
     let m = engine_calls::marking_of(s);
     let buffer = second_list(s);
@@ -56,7 +109,7 @@ fn run_bytes(s: &[u8], out: &mut [u8]) -> usize {
         return 0;
     }
     bytes::put_bytes(out, start, buffer);
-    let a = engine::run_bytes(t, m, first_list(s), &mut out[start..end]);
+    let a = ran(over_bytes, t, m, first_list(s), &mut out[start..end]);
     answer::put_marking_answer(out, a);
     end - START
 }
@@ -65,7 +118,8 @@ fn run_bytes(s: &[u8], out: &mut [u8]) -> usize {
 pub fn answer(call: u8, s: &[u8], out: &mut [u8]) -> usize {
     match call {
         19 => remedies(s, out),
-        21 => run_bytes(s, out),
+        20 => run(false, s, out),
+        21 => run(true, s, out),
         _ => 0,
     }
 }
