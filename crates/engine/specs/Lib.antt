@@ -1,9 +1,10 @@
 -- What the inner functions of the engine promise, and that it amounts to the definitions.
 pub mod Reach
 pub mod Collect
-pub mod Rows
+pub mod Derived
 pub mod Reasons
 pub mod Taking
+pub mod Trial
 pub mod Running
 pub mod Heard
 pub mod Laws

@@ -1,17 +1,28 @@
 -- The reasons of the static check that lie with a relation, as they are looked for in one pass.
+use mathlib.Core.Path.{_≡_}
 use mathlib.Core.Bool.{Bool, not, _&&_}
+use mathlib.Core.List.{List}
 use Prim.Native.Nat.{ℕ}
 use lib.Dec.{eqb, ltb}
 use Rattle.rules.specs.declared.Relation.{Relation}
 use Rattle.rules.specs.declared.Table.{Table}
 use Rattle.rules.specs.declared.CheckAnswer.{CheckAnswer}
 use Rattle.rules.specs.declared.CheckAnswer.the-variants.{Accepts}
-use Rattle.rules.specs.Counting.{lowest}
+use Rattle.rules.specs.Counting.{some, lowest}
 use Rattle.rules.specs.EventSet.{has}
 use Rattle.rules.specs.Holds.{isCondition, isResponse, isInclusion, relationOf}
 use Rattle.rules.specs.Check.{uncausable, waiting, onCycle, reopening, reviving, reason}
 use Rattle.engine.specs.declared.reasons.Reason.{Reason}
 use Rattle.engine.specs.declared.reasons.Reason.the-variants.{Waiting, Reopening, Reviving}
+use Rattle.engine.specs.Derived.{ledTo}
+
+-- a word has the events to which a set leads by the rows of a sort
+abbrev pub Led : List ℕ → ℕ → ℕ → ℕ → Type 0
+Led rows s set w = (x : ℕ) → has w x ≡ some 64 (ledTo rows s set x)
+
+-- a word has the events to which the relations of a test lead
+abbrev pub Ends : Table → (ℕ → Bool) → ℕ → Type 0
+Ends t f w = (x : ℕ) → has w x ≡ some (t .count) (λ k. f k && eqb (relationOf t k .right) x)
 
 -- of a relation with its left in the closure: a condition of some time; a response to a milestone of the closure; an inclusion of another
 -- closure event

@@ -1,17 +1,19 @@
-// The guarded tick of a table and a marking that the check accepts.
+// The guarded tick.
 use crate::collect;
 use crate::effect;
 use crate::inhibition;
+use crate::reasons;
 use crate::time;
-use crate::word;
+use rules::CheckAnswer;
 use rules::GuardedAnswer;
 use rules::Marking;
 use rules::Table;
 ghost use mathlib.Core.Path.{_≡_};
-ghost use Prim.Native.Nat.{ℕ, _<_, _^_};
-ghost use Rattle.rules.specs.Guard.{needed, orderOf, caused, guarded};
+ghost use Prim.Native.Nat.{_<_, _^_};
+ghost use Rattle.rules.specs.Judge.{judged};
+ghost use Rattle.rules.specs.Guard.{needed, orderOf, caused, guarded, guardedTick};
 ghost use Rattle.rules.specs.Laws.Judge.{Good};
-ghost use Rattle.engine.specs.Rows.{everyEvent, Rows};
+ghost use Rattle.engine.specs.Derived.{Derived};
 ghost use Rattle.engine.specs.Taking.{answered, nothing, takenOne, carriedOn};
 
 // An answer that has caused nothing.
@@ -29,15 +31,15 @@ pub fn nothing(number: u8, reason: u8, place: usize, m: Marking) -> GuardedAnswe
 }
 
 // The due events and, repeatedly, the inhibitors that hold them back.
-fn needed(t: Table, m: Marking) -> u64
+fn needed(t: Table, m: Marking, rows: &[u64]) -> u64
     requires { ⌜ Good t m ⌝ }
+    requires { ⌜ Derived t (t .count) (now rows) ⌝ }
     ensures { λ r. ⌜ r ≡ needed t m ⌝ }
 {
     let missing = collect::marked(m, collect::Mark::Missing);
     let pending = collect::marked(m, collect::Mark::Pending);
-    let rows = inhibition::inhibitors(t, missing, pending);
     let due = time::due_set(m);
-    inhibition::joined_fully(rows, due, t.events)
+    inhibition::reached(rows, missing, pending, due)
 }
 
 // An event is executed and noted if included at that moment, else skipped.
@@ -66,9 +68,9 @@ fn take(t: Table, s: GuardedAnswer, e: usize) -> GuardedAnswer
 }
 
 // Again and again the lowest ready event is taken.
-fn take_all(t: Table, m: Marking, rows: [u64; 64], needed: u64) -> GuardedAnswer
+fn take_all(t: Table, m: Marking, rows: &[u64], needed: u64) -> GuardedAnswer
     requires { ⌜ Good t m ⌝ }
-    requires { ⌜ Rows t everyEvent everyEvent (t .count) rows ⌝ }
+    requires { ⌜ Derived t (t .count) (now rows) ⌝ }
     requires { ⌜ needed < 2 ^ t .events ⌝ }
     ensures { λ r. ⌜ r ≡ carriedOn t (nothing 0 0 0 m) (orderOf t (t .events) needed) ⌝ }
 {
@@ -77,11 +79,10 @@ fn take_all(t: Table, m: Marking, rows: [u64; 64], needed: u64) -> GuardedAnswer
     let mut untaken = needed;
     let mut i = 0;
     while i < n {
-        let ready = inhibition::selected(rows, untaken, inhibition::Choice::Ready);
-        if ready == 0 {
+        let e = inhibition::first_ready(rows, untaken);
+        if 63 < e {
             return s;
         }
-        let e = word::lowest(ready);
         let next = take(t, s, e);
         s = next;
         untaken -= 1 << e;
@@ -91,12 +92,12 @@ fn take_all(t: Table, m: Marking, rows: [u64; 64], needed: u64) -> GuardedAnswer
 }
 
 // What is needed is taken, then one tick passes.
-pub fn guarded(t: Table, m: Marking) -> GuardedAnswer
+pub fn guarded(t: Table, m: Marking, rows: &[u64]) -> GuardedAnswer
     requires { ⌜ Good t m ⌝ }
+    requires { ⌜ Derived t (t .count) (now rows) ⌝ }
     ensures { λ r. ⌜ r ≡ answered 0 0 0 (caused t m) (guarded t m) ⌝ }
 {
-    let rows = inhibition::inhibitors(t, inhibition::EVERY, inhibition::EVERY);
-    let untaken = needed(t, m);
+    let untaken = needed(t, m, rows);
     let s = take_all(t, m, rows, untaken);
     let taken = s.marking;
     let caused = s.caused;
@@ -108,5 +109,19 @@ pub fn guarded(t: Table, m: Marking) -> GuardedAnswer
         caused,
         count: s.count,
         marking: later,
+    }
+}
+
+// The guarded tick of a judged table and marking, of the table's rows: refused where the check rejects.
+pub fn ticked(t: Table, m: Marking, rows: &[u64]) -> GuardedAnswer
+    requires { ⌜ judged t m ≡ 0 ⌝ }
+    requires { ⌜ Derived t (t .count) (now rows) ⌝ }
+    ensures { λ r. ⌜ r ≡ guardedTick t m ⌝ }
+{
+    let checked = reasons::verdict(t, m, rows);
+    match checked {
+        CheckAnswer::Refused(number) => nothing(number, 0, 0, m),
+        CheckAnswer::Accepts => guarded(t, m, rows),
+        CheckAnswer::Rejects(reason, place) => nothing(12, reason, place, m),
     }
 }

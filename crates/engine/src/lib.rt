@@ -3,6 +3,7 @@
 mod ask;
 mod blocking;
 mod collect;
+mod derived;
 mod effect;
 mod enabling;
 mod event_set;
@@ -104,17 +105,7 @@ pub fn plain_tick(t: Table, m: Marking) -> MarkingAnswer
 {
     let number = judge::judge(t, m);
     if number == 0 {
-        if time::due_set(m) == 0 {
-            let after = time::time(m);
-            return MarkingAnswer {
-                number: 0,
-                marking: after,
-            };
-        }
-        return MarkingAnswer {
-            number: 11,
-            marking: m,
-        };
+        return time::ticked(m);
     }
     MarkingAnswer { number, marking: m }
 }
@@ -153,8 +144,8 @@ pub fn closure(t: Table, m: Marking) -> SetAnswer
 {
     let number = judge::judge(t, m);
     if number == 0 {
-        let rows = inhibition::inhibitors(t, inhibition::EVERY, inhibition::EVERY);
-        let closed = reasons::closure(t, m, rows);
+        let rows = derived::derived(t);
+        let closed = reasons::closure(t, m, &rows);
         return SetAnswer {
             number: 0,
             set: closed,
@@ -169,7 +160,8 @@ pub fn check(t: Table, m: Marking) -> CheckAnswer
 {
     let number = judge::judge(t, m);
     if number == 0 {
-        return reasons::verdict(t, m);
+        let rows = derived::derived(t);
+        return reasons::verdict(t, m, &rows);
     }
     CheckAnswer::Refused(number)
 }
@@ -178,12 +170,12 @@ pub fn check(t: Table, m: Marking) -> CheckAnswer
 pub fn guarded_tick(t: Table, m: Marking) -> GuardedAnswer
     ensures { λ r. ⌜ r ≡ guardedTick t m ⌝ }
 {
-    let checked = check(t, m);
-    match checked {
-        CheckAnswer::Refused(number) => guard::nothing(number, 0, 0, m),
-        CheckAnswer::Accepts => guard::guarded(t, m),
-        CheckAnswer::Rejects(reason, place) => guard::nothing(12, reason, place, m),
+    let number = judge::judge(t, m);
+    if number == 0 {
+        let rows = derived::derived(t);
+        return guard::ticked(t, m, &rows);
     }
+    guard::nothing(number, 0, 0, m)
 }
 
 // The shortest start that discharges, of the preferred list if it has one, else of the fallback: that stretch of the operator's own list,
@@ -212,15 +204,17 @@ pub fn remedies<'a>(
         *number = 14;
         return &preferred[..0];
     }
-    let first = remedy::shortest(t, m, preferred);
-    if first <= preferred.len() {
+    let first = remedy::tried(t, m, preferred);
+    let after = first.marking;
+    if time::due_set(after) == 0 {
         *number = 0;
-        return &preferred[..first];
+        return &preferred[..first.length];
     }
-    let second = remedy::shortest(t, m, fallback);
-    if second <= fallback.len() {
+    let second = remedy::tried(t, m, fallback);
+    let otherwise = second.marking;
+    if time::due_set(otherwise) == 0 {
         *number = 0;
-        return &fallback[..second];
+        return &fallback[..second.length];
     }
     *number = 13;
     &preferred[..0]
@@ -250,11 +244,12 @@ pub fn run(t: Table, m: Marking, steps: &[Step], answers: &mut [u8]) -> MarkingA
     ensures { λ r. ⌜ (r ≡ run t m (now (steps .entry)) (length (now (answers .entry)))) × (now (answers .exit) ≡ runAnswers t m (now (steps .entry)) (now (answers .entry))) ⌝ }
 {
     let mut state = trace::begun(t, m, steps.len(), answers.len());
+    let rows = trace::rows_for(t, state.number);
     let n = state.steps;
     let mut i = 0;
     while i < n {
         let x = steps[i];
-        let next = trace::further(t, state, x.kind, x.event);
+        let next = trace::stepped(t, rows, state, x.kind, x.event);
         answers[i] = next.answer;
         state = next;
         i += 1;

@@ -1,4 +1,4 @@
-// The shortest start of an offered list that discharges: one pass, in a marking of its own.
+// An offered list is tried, in a marking of its own.
 use super::effect::effect;
 use super::enabling::is_enabled;
 use super::event_set::has_event;
@@ -6,9 +6,17 @@ use super::time::due_set;
 use rules::Marking;
 use rules::Table;
 ghost use mathlib.Core.Path.{_≡_};
+ghost use mathlib.Core.Bool.{_&&_};
 ghost use Rattle.rules.specs.Judge.{judged};
-ghost use Rattle.rules.specs.Remedy.{shortest};
+ghost use Rattle.rules.specs.Time.{anyDue};
 ghost use Rattle.rules.specs.Laws.Remedy.{mayCause};
+ghost use Rattle.engine.specs.Trial.{Tried};
+
+// A list that was tried: how many of its events were caused, one after the other, and the marking after them.
+pub struct Trial {
+    pub marking: Marking,
+    pub length: usize,
+}
 
 // An event of a list exists, is causable and is enabled.
 fn may_cause(t: Table, m: Marking, e: usize) -> bool
@@ -23,27 +31,38 @@ fn may_cause(t: Table, m: Marking, e: usize) -> bool
     false
 }
 
-// Its length; one more than the list has where there is none.
-pub fn shortest(t: Table, m: Marking, list: &[u8]) -> usize
+// Some event is due, and the next of the list may be caused.
+fn goes_on(t: Table, m: Marking, e: usize) -> bool
     requires { ⌜ judged t m ≡ 0 ⌝ }
-    ensures { λ r. ⌜ r ≡ shortest t m (now (list .entry)) ⌝ }
+    ensures { λ r. ⌜ r ≡ (anyDue m && mayCause t m e) ⌝ }
+{
+    if due_set(m) == 0 {
+        return false;
+    }
+    may_cause(t, m, e)
+}
+
+// The events of a list in turn, as long as some event is due and the next may be caused.
+pub fn tried(t: Table, m: Marking, list: &[u8]) -> Trial
+    requires { ⌜ judged t m ≡ 0 ⌝ }
+    ensures { λ r. ⌜ Tried t m (now (list .entry)) r ⌝ }
 {
     let n = list.len();
     let mut trial = m;
     let mut i = 0;
     while i < n {
-        if due_set(trial) == 0 {
-            return i;
-        }
         let e = list[i] as usize;
-        if !may_cause(t, trial, e) {
-            return n + 1;
+        if !goes_on(t, trial, e) {
+            return Trial {
+                marking: trial,
+                length: i,
+            };
         }
         trial = effect(t, trial, e);
         i += 1;
     }
-    if due_set(trial) == 0 {
-        return n;
+    Trial {
+        marking: trial,
+        length: n,
     }
-    n + 1
 }

@@ -1,11 +1,13 @@
 // Due events, and the passing of one tick.
 use rules::Marking;
+use rules::MarkingAnswer;
 use rules::Record;
 ghost use mathlib.Core.Path.{_≡_};
 ghost use mathlib.Core.Bool.{cond};
 ghost use Prim.Native.Nat.{_+_, _-_, _≤_, min};
+ghost use Rattle.rules.specs.Numbers.{done};
 ghost use Rattle.rules.specs.Holds.{limit};
-ghost use Rattle.rules.specs.Time.{isDue, dueSet, later, time};
+ghost use Rattle.rules.specs.Time.{isDue, dueSet, later, time, plainTickNumber};
 
 fn is_due(r: Record) -> bool
     ensures { λ b. ⌜ b ≡ isDue r ⌝ }
@@ -93,4 +95,22 @@ pub fn time(m: Marking) -> Marking
         i += 1;
     }
     Marking { records, events: n }
+}
+
+// A plain tick, of a judged marking: refused while an event is due.
+pub fn ticked(m: Marking) -> MarkingAnswer
+    requires { ⌜ m .events ≤ 64 ⌝ }
+    ensures { λ r. ⌜ r ≡ record { number = plainTickNumber m; marking = done (plainTickNumber m) (time m) m } ⌝ }
+{
+    if due_set(m) == 0 {
+        let after = time(m);
+        return MarkingAnswer {
+            number: 0,
+            marking: after,
+        };
+    }
+    MarkingAnswer {
+        number: 11,
+        marking: m,
+    }
 }

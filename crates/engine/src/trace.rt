@@ -1,117 +1,55 @@
-// The trace runner. The table and the marking are judged once, at the start; each step then needs no judging.
-use super::effect::effect;
-use super::enabling::is_enabled;
-use super::event_set::has_event;
+// The trace runner. The table and the marking are judged once, at the start, and what is derived from the table is kept; each step then needs
+// no judging, and the check is not asked again once it has accepted.
+use super::ask::asked;
+use super::derived::derived;
 use super::guard::guarded;
+use super::guard::ticked as guard_tick;
 use super::judge::judge;
-use super::reasons::verdict;
-use super::time::due_set;
-use super::time::time;
-use rules::CheckAnswer;
+use super::time::ticked;
 use rules::Marking;
 use rules::MarkingAnswer;
 use rules::Table;
 ghost use mathlib.Core.Path.{_≡_};
+ghost use mathlib.Core.Bool.{true, _&&_, _||_};
 ghost use mathlib.Core.List.{_++_};
 ghost use Prim.Native.Nat.{_/_, _%_, _≤_};
 ghost use lib.Dec.{eqb};
 ghost use lib.ListN.{length, drop};
+ghost use Rattle.rules.specs.declared.CheckAnswer.the-variants.{Accepts};
 ghost use Rattle.rules.specs.Numbers.{_if_, _else_, done, checkNumber};
 ghost use Rattle.rules.specs.Judge.{judged};
-ghost use Rattle.rules.specs.Effect.{effect};
-ghost use Rattle.rules.specs.Time.{time, plainTickNumber};
 ghost use Rattle.rules.specs.Check.{verdict};
 ghost use Rattle.rules.specs.Guard.{guarded};
 ghost use Rattle.rules.specs.Trace.{endOf, answersOf, traceNumber, stepsIn};
-ghost use Rattle.rules.specs.Laws.Ask.{askNumber};
+ghost use Rattle.rules.specs.Laws.Judge.{GoodTable};
 ghost use Rattle.rules.specs.Laws.Trace.{turned};
-ghost use Rattle.engine.specs.Running.{begunRun, furtherRun};
+ghost use Rattle.engine.specs.Derived.{Derived};
+ghost use Rattle.engine.specs.Running.{begunRun, furtherRun, Fit};
 
-// A request or report: 8, 9, 10.
-fn asked_number(t: Table, m: Marking, e: usize, controllable: bool) -> u8
+// A guarded tick: 12. Where the check is known to accept it is not asked.
+fn guard_ticked(t: Table, m: Marking, rows: &[u64], accepted: bool) -> MarkingAnswer
     requires { ⌜ judged t m ≡ 0 ⌝ }
-    ensures { λ r. ⌜ r ≡ askNumber controllable t m e ⌝ }
+    requires { ⌜ Derived t (t .count) (now rows) ⌝ }
+    requires { ⌜ (accepted ≡ true → verdict t m ≡ Accepts) ⌝ }
+    ensures { λ r. ⌜ r ≡ record { number = checkNumber (verdict t m); marking = done (checkNumber (verdict t m)) (guarded t m) m } ⌝ }
 {
-    if e < t.events {
-        if has_event(t.controllable, e) == controllable {
-            if is_enabled(t, m, e) {
-                return 0;
-            }
-            return 10;
-        }
-        return 9;
-    }
-    8
-}
-
-fn asked(t: Table, m: Marking, e: usize, controllable: bool) -> MarkingAnswer
-    requires { ⌜ judged t m ≡ 0 ⌝ }
-    ensures { λ r. ⌜ r ≡ record { number = askNumber controllable t m e; marking = done (askNumber controllable t m e) (effect t m e) m } ⌝ }
-{
-    let refusal = asked_number(t, m, e, controllable);
-    if refusal == 0 {
-        let after = effect(t, m, e);
-        return MarkingAnswer {
-            number: 0,
-            marking: after,
-        };
-    }
-    MarkingAnswer {
-        number: refusal,
-        marking: m,
-    }
-}
-
-// A plain tick: 11.
-fn ticked(t: Table, m: Marking) -> MarkingAnswer
-    requires { ⌜ judged t m ≡ 0 ⌝ }
-    ensures { λ r. ⌜ r ≡ record { number = plainTickNumber m; marking = done (plainTickNumber m) (time m) m } ⌝ }
-{
-    if due_set(m) == 0 {
-        let after = time(m);
-        return MarkingAnswer {
-            number: 0,
-            marking: after,
-        };
-    }
-    MarkingAnswer {
-        number: 11,
-        marking: m,
-    }
-}
-
-// A guarded tick that the check accepts.
-fn accepted(t: Table, m: Marking) -> MarkingAnswer
-    requires { ⌜ judged t m ≡ 0 ⌝ }
-    ensures { λ r. ⌜ r ≡ record { number = 0; marking = guarded t m } ⌝ }
-{
-    let answer = guarded(t, m);
+    let answer = if accepted {
+        guarded(t, m, rows)
+    } else {
+        guard_tick(t, m, rows)
+    };
     let after = answer.marking;
     MarkingAnswer {
-        number: 0,
+        number: answer.number,
         marking: after,
     }
 }
 
-// A guarded tick: 12.
-fn guard_ticked(t: Table, m: Marking) -> MarkingAnswer
-    requires { ⌜ judged t m ≡ 0 ⌝ }
-    ensures { λ r. ⌜ r ≡ record { number = checkNumber (verdict t m); marking = done (checkNumber (verdict t m)) (guarded t m) m } ⌝ }
-{
-    let checked = verdict(t, m);
-    match checked {
-        CheckAnswer::Refused(number) => MarkingAnswer { number, marking: m },
-        CheckAnswer::Accepts => accepted(t, m),
-        CheckAnswer::Rejects(_, _) => MarkingAnswer {
-            number: 12,
-            marking: m,
-        },
-    }
-}
-
 // One step, of a kind and an event number; a refused step leaves the marking.
-pub fn turn(t: Table, m: Marking, kind: u8, event: u8) -> MarkingAnswer
+fn turn(t: Table, m: Marking, rows: &[u64], accepted: bool, kind: u8, event: u8) -> MarkingAnswer
     requires { ⌜ judged t m ≡ 0 ⌝ }
+    requires { ⌜ Derived t (t .count) (now rows) ⌝ }
+    requires { ⌜ (accepted ≡ true → verdict t m ≡ Accepts) ⌝ }
     ensures { λ r. ⌜ r ≡ turned t m kind event ⌝ }
 {
     let e = event as usize;
@@ -128,10 +66,10 @@ pub fn turn(t: Table, m: Marking, kind: u8, event: u8) -> MarkingAnswer
         };
     }
     if kind == 2 {
-        return ticked(t, m);
+        return ticked(m);
     }
     if kind == 3 {
-        return guard_ticked(t, m);
+        return guard_ticked(t, m, rows, accepted);
     }
     MarkingAnswer {
         number: 15,
@@ -166,30 +104,11 @@ pub fn bytes_number(t: Table, m: Marking, bytes: usize, room: usize) -> u8
     number
 }
 
-// Every step in turn, each answer to its place; the end marking.
-pub fn played(t: Table, m: Marking, steps: &[u8], answers: &mut [u8]) -> Marking
-    requires { ⌜ judged t m ≡ 0 ⌝ }
-    requires { ⌜ length (now steps) / 2 ≤ length (now answers) ⌝ }
-    ensures { λ r. ⌜ r ≡ endOf t m (stepsIn (now (steps .entry))) ⌝ }
-    ensures { λ _. ⌜ now (answers .exit) ≡ answersOf t m (stepsIn (now (steps .entry))) ++ drop (length (now (steps .entry)) / 2) (now (answers .entry)) ⌝ }
-{
-    let n = steps.len() / 2;
-    let mut after = m;
-    let mut i = 0;
-    while i < n {
-        let kind = steps[2 * i];
-        let event = steps[2 * i + 1];
-        let r = turn(t, after, kind, event);
-        answers[i] = r.number;
-        after = r.marking;
-        i += 1;
-    }
-    after
-}
-
-// How a run stands: the marking, the answer to the last step, the number of the whole trace, and how many of its steps are run.
+// How a run stands: the marking, whether the check is known to accept it, the answer to the last step, the number of the whole trace, and
+// how many of its steps are run.
 pub struct Running {
     pub marking: Marking,
+    pub accepted: bool,
     pub answer: u8,
     pub number: u8,
     pub steps: usize,
@@ -205,6 +124,7 @@ pub fn begun(t: Table, m: Marking, steps: usize, room: usize) -> Running
         if number == 0 {
             return Running {
                 marking: m,
+                accepted: false,
                 answer: 0,
                 number: 0,
                 steps,
@@ -213,26 +133,86 @@ pub fn begun(t: Table, m: Marking, steps: usize, room: usize) -> Running
     }
     Running {
         marking: m,
+        accepted: false,
         answer: 0,
         number,
         steps: 0,
     }
 }
 
+// The rows of a run's table, kept from step to step; none where the trace is refused.
+pub fn rows_for(t: Table, number: u8) -> [u64; 512]
+    requires { ⌜ (number ≡ 0 → GoodTable t) ⌝ }
+    ensures { λ r. ⌜ (number ≡ 0 → Derived t (t .count) r) ⌝ }
+{
+    if number == 0 {
+        return derived(t);
+    }
+    [0; 512]
+}
+
+// A guarded tick that is done shows that the check accepts, and it then goes on accepting whatever the steps are (demand 3).
+fn shows_accepted(accepted: bool, kind: u8, number: u8) -> bool
+    ensures { λ r. ⌜ r ≡ (accepted || eqb kind 3 && eqb number 0) ⌝ }
+{
+    if accepted {
+        return true;
+    }
+    if kind == 3 { number == 0 } else { false }
+}
+
 // One step more.
-pub fn further(t: Table, r: Running, kind: u8, event: u8) -> Running
-    requires { ⌜ judged t (r .marking) ≡ 0 ⌝ }
+fn further(t: Table, rows: &[u64], r: Running, kind: u8, event: u8) -> Running
+    requires { ⌜ Fit t r ⌝ }
+    requires { ⌜ Derived t (t .count) (now rows) ⌝ }
     ensures { λ n. ⌜ n ≡ furtherRun t r kind event ⌝ }
 {
     let before = r.marking;
-    let answer = turn(t, before, kind, event);
+    let answer = turn(t, before, rows, r.accepted, kind, event);
     let after = answer.marking;
     Running {
         marking: after,
+        accepted: shows_accepted(r.accepted, kind, answer.number),
         answer: answer.number,
         number: r.number,
         steps: r.steps,
     }
+}
+
+// The same, of rows by value, for a caller that cannot lend them.
+pub fn stepped(t: Table, rows: [u64; 512], r: Running, kind: u8, event: u8) -> Running
+    requires { ⌜ Fit t r × Derived t (t .count) rows ⌝ }
+    ensures { λ n. ⌜ n ≡ furtherRun t r kind event ⌝ }
+{
+    further(t, &rows, r, kind, event)
+}
+
+// Every step in turn, each answer to its place; the end marking.
+pub fn played(t: Table, m: Marking, steps: &[u8], answers: &mut [u8]) -> Marking
+    requires { ⌜ judged t m ≡ 0 ⌝ }
+    requires { ⌜ length (now steps) / 2 ≤ length (now answers) ⌝ }
+    ensures { λ r. ⌜ r ≡ endOf t m (stepsIn (now (steps .entry))) ⌝ }
+    ensures { λ _. ⌜ now (answers .exit) ≡ answersOf t m (stepsIn (now (steps .entry))) ++ drop (length (now (steps .entry)) / 2) (now (answers .entry)) ⌝ }
+{
+    let rows = derived(t);
+    let n = steps.len() / 2;
+    let mut state = Running {
+        marking: m,
+        accepted: false,
+        answer: 0,
+        number: 0,
+        steps: n,
+    };
+    let mut i = 0;
+    while i < n {
+        let kind = steps[2 * i];
+        let event = steps[2 * i + 1];
+        let next = further(t, &rows, state, kind, event);
+        answers[i] = next.answer;
+        state = next;
+        i += 1;
+    }
+    state.marking
 }
 
 pub fn ended(r: Running) -> MarkingAnswer

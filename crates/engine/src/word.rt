@@ -1,6 +1,7 @@
 // An event set in a word.
 ghost use mathlib.Core.Path.{_≡_};
-ghost use Prim.Native.Nat.{ℕ, _<_};
+ghost use Prim.Native.Nat.{ℕ, _<_, _≤_};
+ghost use lib.Dec.{ltb};
 ghost use mathlib.Core.Bool.{_&&_, not};
 ghost use Rattle.rules.specs.EventSet.{has, lowestOf};
 ghost use Rattle.rules.specs.Laws.EventSet.{withEvent};
@@ -25,4 +26,12 @@ pub fn lowest(set: u64) -> usize
     ensures { λ r. ⌜ r ≡ lowestOf set ⌝ }
 {
     crate::lowest(set) as usize
+}
+
+// The first n events.
+pub fn first(n: usize) -> u64
+    requires { ⌜ (0 < n) × (n ≤ 64) ⌝ }
+    ensures { λ r. ⌜ ((x : ℕ) → has r x ≡ ltb x n) ⌝ }
+{
+    0xffff_ffff_ffff_ffff >> (64 - n)
 }

@@ -1,170 +1,236 @@
--- A round over the rows is a round over the relations, so the rounds are those of the definitions: for every inhibitor, and for those that
--- hold back at the start. Assumes nothing.
-use mathlib.Core.Path.{_≡_, refl, _∙_, ap, sym, subst}
-use mathlib.Core.Bool.{Bool, true, false, not, _&&_, _||_, cond}
+-- The rows of a table lead where its relations do: from an event to its inhibitors, from a set to all that it reaches, so to the closure, the
+-- needed set and what an event waits for, and to the events that are ready. Assumes nothing.
+use mathlib.Core.Path.{_≡_, refl, _∙_, ap, ap₂, sym, subst}
+use mathlib.Core.Bool.{Bool, true, false, not, _&&_, _||_, and-true}
 use mathlib.Core.List.{List}
-use mathlib.Core.Logic.{_⊎_, ⊎-elim, inl, inr}
+use mathlib.Core.Logic.{_⊎_, inl, inr}
 use Prim.Native.Nat.{ℕ, zero, suc, _<_, _^_}
 use native.Mathlib.Omega.{arith}
-use lib.Dec.{eqb, lit<}
-use lib.ListN.{getD}
-use lib.Bits.{bitOr}
-use borrow.Author.Tests.{eqb-true, eq-eqb, ne-eqb}
+use lib.Dec.{eqb}
+use lib.Bits.{bitOr, bitAnd}
+use borrow.Author.Tests.{eqb-true, eq-eqb, lt-ltb}
+use Rattle.rules.specs.declared.Relation.{Relation}
 use Rattle.rules.specs.declared.Table.{Table}
 use Rattle.rules.specs.declared.Record.{Record}
 use Rattle.rules.specs.declared.Marking.{Marking}
-use Rattle.rules.specs.Counting.{some, repeated}
-use Rattle.rules.specs.EventSet.{has}
+use Rattle.rules.specs.Counting.{some}
+use Rattle.rules.specs.EventSet.{has, setOf}
 use Rattle.rules.specs.Holds.{isCondition, isMilestone, relationOf, recordOf}
 use Rattle.rules.specs.Effect.{leads}
-use Rattle.rules.specs.Closure.{followed, follows, widened, widenedFully}
-use Rattle.rules.specs.Guard.{holdsBack}
-use Rattle.rules.specs.Laws.Tests.{clash, or-false, both, either, join, or-left, or-right, same-test}
-use Rattle.rules.specs.Laws.Counting.{some-where, some-at, some-same, repeated-keeps}
-use Rattle.rules.specs.Laws.EventSet.{has-zero, set-holds, set-has}
-use Rattle.rules.specs.Laws.Words.{has-or, has-not}
+use Rattle.rules.specs.Time.{dueSet}
+use Rattle.rules.specs.Closure.{busy, followed, follows, widenedFully, closure}
+use Rattle.rules.specs.Check.{awaited}
+use Rattle.rules.specs.Guard.{holdsBack, needed, ready}
+use Rattle.rules.specs.Laws.Tests.{decide, clash, both, join, same-test, and-false}
+use Rattle.rules.specs.Laws.Counting.{some-where, some-at, some-same}
+use Rattle.rules.specs.Laws.EventSet.{set-has, set-lt-power}
+use Rattle.rules.specs.Laws.Time.{set-empty}
+use Rattle.rules.specs.Laws.Words.{has-or, has-and}
 use Rattle.rules.specs.Laws.Turns.{same-word}
-use Rattle.rules.specs.Laws.Judge.{GoodTable, GoodRelation}
-use Rattle.rules.specs.Laws.Widened.{has-below, widened-fits, widened-keeps, widened-on}
+use Rattle.rules.specs.Laws.Judge.{GoodTable, Good}
+use Rattle.rules.specs.Laws.Widened.{has-below, fully-within, fully-contains, fully-closed}
+use Rattle.rules.specs.Laws.Closure.{follows-where}
+use Rattle.rules.specs.Laws.Needed.{due-fits}
 use Rattle.engine.specs.declared.collect.Mark.{Mark}
 use Rattle.engine.specs.declared.collect.Mark.the-variants.{Missing, Pending}
 use Rattle.engine.specs.Collect.{isMarked, marked}
-use Rattle.engine.specs.Rows.{everyEvent, leadsOn, leadsFrom, Rows, joinedBelow, joined}
-use Rattle.engine.specs.Laws.Collect.{left-small, right-small}
+use Rattle.engine.specs.Derived.{sortOf, rowOf, sorted, Derived, everyEvent, inhibitorsIn, Reached, readyIn}
+use Rattle.engine.specs.Laws.Members.{set-by-test, has-every}
+use Rattle.engine.specs.Laws.Sorts.{sorts}
+use Rattle.engine.specs.Laws.Derived.{left-small, right-small}
 
-or-assoc : (a b c : Bool) → ((a || b) || c) ≡ (a || (b || c))
-or-assoc true b c = refl
-or-assoc false b c = refl
+-- a relation leads on to its right event: a condition to one of the first set, a milestone to one of the second
+abbrev pub leadsOn : ℕ → ℕ → Relation → Bool
+leadsOn conditions milestones k = isCondition k && has conditions (k .right) || isMilestone k && has milestones (k .right)
 
--- the events of the rows that are joined
-has-joined : (rows : List ℕ) (set n x : ℕ) → has (joinedBelow rows set n) x ≡ (has set x || some n (λ e. has set e && has (getD rows e 0) x))
-unfolding joinedBelow some
-has-joined rows set zero x = sym (or-false (has set x))
-has-joined rows set (suc n) x = go (has set n) refl (has-joined rows set n x)
+-- relation k leads on from e to x
+abbrev leadsFrom : Table → ℕ → ℕ → ℕ → ℕ → ℕ → Bool
+leadsFrom t conditions milestones e x k = leadsOn conditions milestones (relationOf t k) && leads (relationOf t k) e x
+
+-- some place for either of two tests; some place, and a test besides
+pub some-either : (f g : ℕ → Bool) (n : ℕ) → (some n f || some n g) ≡ some n (λ k. f k || g k)
+unfolding some
+some-either f g zero = refl
+some-either f g (suc n) = go (some n f) (f n) (some n g) (g n) (some-either f g n)
   where
-    below : Bool
-    below = some n (λ e. has set e && has (getD rows e 0) x)
+    go : (a b c d : Bool) {e : Bool} → (a || c) ≡ e → ((a || b) || (c || d)) ≡ (e || (b || d))
+    go true b c d h = rw (sym h)
+    go false true true d h = rw (sym h)
+    go false true false d h = rw (sym h)
+    go false false true d h = rw (sym h)
+    go false false false d h = rw (sym h)
 
-    go : (b : Bool) → has set n ≡ b → has (joinedBelow rows set n) x ≡ (has set x || below)
-        → has (cond b (bitOr (joinedBelow rows set n) (getD rows n 0)) (joinedBelow rows set n)) x ≡ (has set x || (below || (b && has (getD rows n 0) x)))
-    go true e ih = has-or (joinedBelow rows set n) (getD rows n 0) x ∙ ap (λ (b : Bool). b || has (getD rows n 0) x) ih ∙ or-assoc (has set x) below (has (getD rows n 0) x)
-    go false e ih = ih ∙ ap (λ (b : Bool). has set x || b) (sym (or-false below))
-
--- an event of a wider set: it was there, or a relation brought it
-widened-from : (t : Table) (along : ℕ → Bool) (set x : ℕ) → has (widened t along set) x ≡ true
-    → (has set x ≡ true) ⊎ ((k : ℕ) × (k < t .count) × (along k ≡ true) × (has set (relationOf t k .left) ≡ true) × (relationOf t k .right ≡ x))
-unfolding widened
-widened-from t along set x h = go (either (has set x) (some (t .count) brings) (set-holds _ (t .events) x h .1))
+pub some-besides : (f : ℕ → Bool) (b : Bool) (n : ℕ) → (some n f && b) ≡ some n (λ k. f k && b)
+unfolding some
+some-besides f b zero = refl
+some-besides f b (suc n) = go (some n f) (f n) b (some-besides f b n)
   where
-    brings : ℕ → Bool
-    brings k = along k && has set (relationOf t k .left) && eqb (relationOf t k .right) x
+    go : (a c d : Bool) {e : Bool} → (a && d) ≡ e → ((a || c) && d) ≡ (e || (c && d))
+    go true c true h = rw (sym h)
+    go true true false h = rw (sym h)
+    go true false false h = rw (sym h)
+    go false c d h = rw (sym h)
 
-    go : (has set x ≡ true) ⊎ (some (t .count) brings ≡ true)
-        → (has set x ≡ true) ⊎ ((k : ℕ) × (k < t .count) × (along k ≡ true) × (has set (relationOf t k .left) ≡ true) × (relationOf t k .right ≡ x))
-    go (inl p) = inl p
-    go (inr p) =
-        let k = some-where brings (t .count) p in
-        let q = both (along (k .0) && has set (relationOf t (k .0) .left)) (eqb (relationOf t (k .0) .right) x) (k .2) in
-        let r = both (along (k .0)) (has set (relationOf t (k .0) .left)) (q .0) in
-        inr (k .0, k .1, r .0, r .1, eqb-true _ _ (q .1))
+module _ (t : Table) (good : GoodTable t) (rows : List ℕ) (made : Derived t (t .count) rows) where
+  -- the relations of an event e that lead to x
+  module _ (e : ℕ) (small : e < 64) (x : ℕ) where
+    waits-for : has (bitOr (rowOf rows e 0) (rowOf rows e 1)) x ≡ some (t .count) (λ k. isCondition (relationOf t k) && leads (relationOf t k) e x)
+    waits-for =
+        has-or (rowOf rows e 0) (rowOf rows e 1) x ∙ ap₂ _||_ (made .row e small 0 (omega arith) x) (made .row e small 1 (omega arith) x)
+        ∙ some-either (sorted t 0 e x) (sorted t 1 e x) (t .count)
+        ∙ some-same _ _ (t .count)
+        (λ k b. split (eqb (sortOf (relationOf t k)) 0) (eqb (sortOf (relationOf t k)) 1) (leads (relationOf t k) e x)
+        (sorts (relationOf t k) (good .relations-good k b) .conditions))
+      where
+        split : (a b d : Bool) {c : Bool} → (a || b) ≡ c → (a && d || b && d) ≡ (c && d)
+        split true b true h = rw (sym h)
+        split true b false h = rw (sym h) (and-false b)
+        split false b d h = rw (sym h)
 
-module _ (t : Table) (good : GoodTable t) (conditions milestones : ℕ) (rows : List ℕ) (made : Rows t conditions milestones (t .count) rows)
-    (along : ℕ → Bool) (same : (k : ℕ) → k < t .count → along k ≡ leadsOn conditions milestones (relationOf t k))
-  where
-    -- an event of a row, by its relation
-    row-where : (e x : ℕ) → e < 64 → has (getD rows e 0) x ≡ true → (k : ℕ) × (k < t .count) × (along k ≡ true) × (relationOf t k .left ≡ e) × (relationOf t k .right ≡ x)
-    row-where e x b h =
-        let k = some-where (leadsFrom t conditions milestones e x) (t .count) (sym (made .row e b x) ∙ h) in
+    awaits : has (rowOf rows e 2) x ≡ some (t .count) (λ k. isMilestone (relationOf t k) && leads (relationOf t k) e x)
+    awaits =
+        made .row e small 2 (omega arith) x
+        ∙ some-same _ _ (t .count) (λ k b. ap (λ (a : Bool). a && leads (relationOf t k) e x) (sorts (relationOf t k) (good .relations-good k b) .milestones))
+
+    -- its inhibitors, by the relations
+    pub has-inhibitors : (conditions milestones : ℕ) → has (inhibitorsIn rows conditions milestones e) x ≡ some (t .count) (leadsFrom t conditions milestones e x)
+    has-inhibitors conditions milestones =
+        has-or (bitAnd (bitOr (rowOf rows e 0) (rowOf rows e 1)) conditions) (bitAnd (rowOf rows e 2) milestones) x
+        ∙ ap₂ _||_
+        (has-and (bitOr (rowOf rows e 0) (rowOf rows e 1)) conditions x ∙ ap (λ (a : Bool). a && has conditions x) waits-for ∙ some-besides _ (has conditions x) (t .count))
+        (has-and (rowOf rows e 2) milestones x ∙ ap (λ (a : Bool). a && has milestones x) awaits ∙ some-besides _ (has milestones x) (t .count))
+        ∙ some-either _ _ (t .count)
+        ∙ some-same _ _ (t .count) (λ k b. one (relationOf t k) (decide (leads (relationOf t k) e x)))
+      where
+        one : (k : Relation) → (leads k e x ≡ true) ⊎ (leads k e x ≡ false)
+            → (((isCondition k && leads k e x) && has conditions x) || ((isMilestone k && leads k e x) && has milestones x)) ≡ (leadsOn conditions milestones k && leads k e x)
+        one k (inl l) =
+            let q = eqb-true (k .right) x (both (eqb (k .left) e) (eqb (k .right) x) l .1) in
+            rw (l, and-true (isCondition k), and-true (isMilestone k), and-true (leadsOn conditions milestones k), q)
+        one k (inr l) = rw (l, and-false (isCondition k), and-false (isMilestone k), and-false (leadsOn conditions milestones k))
+
+  -- what a set reaches, where the relations to follow are those that lead on
+  module _ (conditions milestones : ℕ) (along : ℕ → Bool) (same : (k : ℕ) → k < t .count → along k ≡ leadsOn conditions milestones (relationOf t k)) where
+    inhibitor-where : (e x : ℕ) → e < 64 → has (inhibitorsIn rows conditions milestones e) x ≡ true
+        → (k : ℕ) × (k < t .count) × (along k ≡ true) × (relationOf t k .left ≡ e) × (relationOf t k .right ≡ x)
+    inhibitor-where e x b h =
+        let k = some-where (leadsFrom t conditions milestones e x) (t .count) (sym (has-inhibitors e b x conditions milestones) ∙ h) in
         let p = both (leadsOn conditions milestones (relationOf t (k .0))) (leads (relationOf t (k .0)) e x) (k .2) in
         let q = both (eqb (relationOf t (k .0) .left) e) (eqb (relationOf t (k .0) .right) x) (p .1) in
         (k .0, k .1, same (k .0) (k .1) ∙ p .0, eqb-true _ _ (q .0), eqb-true _ _ (q .1))
 
-    row-at : (k : ℕ) → k < t .count → along k ≡ true → has (getD rows (relationOf t k .left) 0) (relationOf t k .right) ≡ true
-    row-at k b h =
-        let l = relationOf t k .left in
-        let r = relationOf t k .right in
-        made .row l (left-small t good k b) r
-        ∙ some-at (leadsFrom t conditions milestones l r) (t .count) k b (join (sym (same k b) ∙ h) (join (eq-eqb l l refl) (eq-eqb r r refl)))
+    inhibitor-at : (k : ℕ) → k < t .count → along k ≡ true → has (inhibitorsIn rows conditions milestones (relationOf t k .left)) (relationOf t k .right) ≡ true
+    inhibitor-at k b h =
+        let e = relationOf t k .left in
+        let x = relationOf t k .right in
+        has-inhibitors e (left-small t good k b) x conditions milestones
+        ∙ some-at (leadsFrom t conditions milestones e x) (t .count) k b (join (sym (same k b) ∙ h) (join (eq-eqb e e refl) (eq-eqb x x refl)))
 
-    -- one round
-    joined-widened : (set : ℕ) → set < 2 ^ t .events → joined rows set ≡ widened t along set
-    joined-widened set fits = same-word (joined rows set) (widened t along set) (λ x. same-test (has (joined rows set) x) (has (widened t along set) x) (there x) (back x))
+    pub reached-fully : (set r : ℕ) → set < 2 ^ t .events → Reached rows conditions milestones set r → r ≡ widenedFully t along set
+    reached-fully set r fits reached =
+        same-word r (widenedFully t along set)
+        (λ x. same-test (has r x) (has (widenedFully t along set) x)
+        (reached .within (has (widenedFully t along set)) (λ y h. fully-contains t along set y (has-below (t .events) set y fits h) h) next x)
+        (fully-within t along (λ y. has r y ≡ true)
+        (λ k b l h. reached .on (relationOf t k .left) (relationOf t k .right) (left-small t good k b) h (inhibitor-at k b l)) set (reached .starts) x))
       where
-        brought : ℕ → ℕ → Bool
-        brought x e = has set e && has (getD rows e 0) x
+        next : (e x : ℕ) → e < 64 → has (widenedFully t along set) e ≡ true → has (inhibitorsIn rows conditions milestones e) x ≡ true → has (widenedFully t along set) x ≡ true
+        next e x b h i =
+            let k = inhibitor-where e x b i in
+            subst (λ (y : ℕ). has (widenedFully t along set) y ≡ true) (k .4)
+            (fully-closed t along set fits (k .0) (k .1) (good .relations-good (k .0) (k .1) .right-exists) (k .2) (ap (has (widenedFully t along set)) (k .3) ∙ h))
 
-        there : (x : ℕ) → has (joined rows set) x ≡ true → has (widened t along set) x ≡ true
-        there x h =
-            ⊎-elim
-            (λ (p : has set x ≡ true). widened-keeps t along set x (has-below (t .events) set x fits p) p)
-            (λ (p : some 64 (λ e. has set e && has (getD rows e 0) x) ≡ true).
-            let e = some-where (λ e. has set e && has (getD rows e 0) x) 64 p in
-            let q = both (has set (e .0)) (has (getD rows (e .0) 0) x) (e .2) in
-            let k = row-where (e .0) x (e .1) (q .1) in
-            subst (λ (y : ℕ). has (widened t along set) y ≡ true) (k .4)
-            (widened-on t along set (k .0) (k .1) (good .relations-good (k .0) (k .1) .right-exists) (k .2) (ap (has set) (k .3) ∙ q .0)))
-            (either (has set x) (some 64 (λ e. has set e && has (getD rows e 0) x)) (sym (has-joined rows set 64 x) ∙ h))
+  -- Every inhibitor is followed.
+  follows-all : (k : ℕ) → k < t .count → followed (relationOf t k) ≡ leadsOn everyEvent everyEvent (relationOf t k)
+  follows-all k b = simp (has-every (relationOf t k .right), lt-ltb (relationOf t k .right) 64 (right-small t good k b), and-true)
 
-        back : (x : ℕ) → has (widened t along set) x ≡ true → has (joined rows set) x ≡ true
-        back x h =
-            has-joined rows set 64 x
-            ∙ ⊎-elim
-            (λ (p : has set x ≡ true). or-left (has set x) _ p)
-            (λ p. or-right (has set x) _ (some-at (brought x) 64 (relationOf t (p .0) .left) (left-small t good (p .0) (p .1))
-            (join (p .3) (ap (has (getD rows (relationOf t (p .0) .left) 0)) (sym (p .4)) ∙ row-at (p .0) (p .1) (p .2)))))
-            (widened-from t along set x h)
+  pub closure-reached : (m : Marking) (start r : ℕ) → start ≡ setOf (t .events) (busy t m) → Reached rows everyEvent everyEvent start r → r ≡ closure t m
+  unfolding closure
+  closure-reached m start r q reached =
+      reached-fully everyEvent everyEvent (λ k. followed (relationOf t k)) follows-all start r (rw q (set-lt-power (busy t m) (t .events))) reached
+      ∙ ap (widenedFully t (λ k. followed (relationOf t k))) q
 
-    -- the rounds
-    joined-rounds : (n set : ℕ) → set < 2 ^ t .events → repeated n (joined rows) set ≡ repeated n (widened t along) set
-    unfolding repeated
-    joined-rounds zero set h = refl
-    joined-rounds (suc n) set h =
-        ap (joined rows) (joined-rounds n set h)
-        ∙ joined-widened (repeated n (widened t along) set) (repeated-keeps (widened t along) (λ s. s < 2 ^ t .events) (λ s f. widened-fits t along s) n set h)
+  -- an event's inhibitors are those that are followed
+  pub inhibitors-follow : (e : ℕ) → e < 64 → (x : ℕ) → has (inhibitorsIn rows everyEvent everyEvent e) x ≡ follows t e x
+  unfolding follows
+  inhibitors-follow e b x =
+      has-inhibitors e b x everyEvent everyEvent
+      ∙ some-same _ _ (t .count) (λ k l. ap (λ (a : Bool). a && leads (relationOf t k) e x) (sym (follows-all k l)))
 
-    pub joined-fully : (set : ℕ) → set < 2 ^ t .events → repeated (t .events) (joined rows) set ≡ widenedFully t along set
-    unfolding widenedFully
-    joined-fully set h = joined-rounds (t .events) set h
+  follows-exists : (e x : ℕ) → follows t e x ≡ true → x < t .events
+  follows-exists e x h = let k = follows-where t e x h in subst (λ (y : ℕ). y < t .events) (k .4) (good .relations-good (k .0) (k .1) .right-exists)
 
--- Every inhibitor: the rows for all events.
-has-every : (x : ℕ) → x < 64 → has everyEvent x ≡ true
-has-every x b = has-not 64 0 x (lit< tt) b ∙ ap not (has-zero x)
+  pub awaited-reached : (e r : ℕ) → e < 64 → Reached rows everyEvent everyEvent (inhibitorsIn rows everyEvent everyEvent e) r → r ≡ awaited t e
+  unfolding awaited
+  awaited-reached e r b reached =
+      let first : inhibitorsIn rows everyEvent everyEvent e ≡ setOf (t .events) (follows t e) =
+      set-by-test (t .events) (inhibitorsIn rows everyEvent everyEvent e) (follows t e)
+      (λ x h. follows-exists e x (sym (inhibitors-follow e b x) ∙ h)) (λ x l. inhibitors-follow e b x) in
+      reached-fully everyEvent everyEvent (λ k. followed (relationOf t k)) follows-all _ r (rw first (set-lt-power (follows t e) (t .events))) reached
+      ∙ ap (widenedFully t (λ k. followed (relationOf t k))) first
 
-pub follows-all : (t : Table) → GoodTable t → (k : ℕ) → k < t .count → followed (relationOf t k) ≡ leadsOn everyEvent everyEvent (relationOf t k)
-unfolding leadsOn
-follows-all t good k b = go (isCondition (relationOf t k)) (isMilestone (relationOf t k)) (has-every (relationOf t k .right) (right-small t good k b))
-  where
-    go : (a c : Bool) {d : Bool} → d ≡ true → (a || c) ≡ cond a d (cond c d false)
-    go true c e = sym e
-    go false true e = sym e
-    go false false e = refl
+  -- The inhibitors that hold back: a condition's where it is missing, a milestone's where it is pending.
+  module _ (m : Marking) (sized : m .events ≡ t .events) where
+    holding-back : (k : ℕ) → k < t .count
+        → (followed (relationOf t k) && holdsBack (relationOf t k) (recordOf m (relationOf t k .right))) ≡ leadsOn (marked m Missing) (marked m Pending) (relationOf t k)
+    unfolding marked holdsBack
+    holding-back k b =
+        rw (here Missing, here Pending)
+        (go (isCondition (relationOf t k)) (isMilestone (relationOf t k)) (r .included) (r .happened) (r .pending))
+      where
+        r : Record
+        r = recordOf m (relationOf t k .right)
 
--- the rows are then the inhibitors that are followed
-pub rows-follow : (t : Table) → GoodTable t → (rows : List ℕ) → Rows t everyEvent everyEvent (t .count) rows
-    → (e : ℕ) → e < 64 → (x : ℕ) → has (getD rows e 0) x ≡ follows t e x
-unfolding follows
-rows-follow t good rows made e b x =
-    made .row e b x ∙ some-same _ _ (t .count) (λ k l. ap (λ (a : Bool). a && leads (relationOf t k) e x) (sym (follows-all t good k l)))
+        here : (what : Mark) → has (setOf (m .events) (isMarked m what)) (relationOf t k .right) ≡ isMarked m what (relationOf t k .right)
+        here what = set-has (isMarked m what) (m .events) (relationOf t k .right) (omega (arith, good .relations-good k b .right-exists, sized))
 
--- The inhibitors that hold back: a condition's where it is missing, a milestone's where it is pending.
-pub holding-back : (t : Table) → GoodTable t → (m : Marking) → m .events ≡ t .events → (k : ℕ) → k < t .count
-    → (followed (relationOf t k) && holdsBack (relationOf t k) (recordOf m (relationOf t k .right))) ≡ leadsOn (marked m Missing) (marked m Pending) (relationOf t k)
-unfolding leadsOn marked holdsBack
-holding-back t good m sized k b =
-    go (isCondition (relationOf t k)) (isMilestone (relationOf t k)) one-kind (r .included) (r .happened) (r .pending) (here Missing) (here Pending)
-  where
-    r : Record
-    r = recordOf m (relationOf t k .right)
+        go : (a c i h p : Bool) → ((a || c) && (i && (a && not h || c && p))) ≡ (a && (i && not h) || c && (i && p))
+        go true c true h p = refl
+        go true true false h p = refl
+        go true false false h p = refl
+        go false true i h p = refl
+        go false false i h p = refl
 
-    here : (what : Mark) → has (marked m what) (relationOf t k .right) ≡ isMarked m what (relationOf t k .right)
-    here what = set-has (isMarked m what) (m .events) (relationOf t k .right) (omega (arith, good .relations-good k b .right-exists, sized))
+    needed-along : (r : ℕ) → Reached rows (marked m Missing) (marked m Pending) (dueSet m) r → r ≡ needed t m
+    unfolding needed
+    needed-along r reached = reached-fully (marked m Missing) (marked m Pending) _ holding-back (dueSet m) r (due-fits t good m sized) reached
 
-    one-kind : isCondition (relationOf t k) ≡ true → isMilestone (relationOf t k) ≡ false
-    one-kind e = ne-eqb (relationOf t k .kind) 5 (λ q. omega (arith, q, eqb-true (relationOf t k .kind) 1 e))
+  -- The events of a set that are ready.
+  module _ (set : ℕ) (fits : set < 2 ^ t .events) where
+    -- the inhibitors of e that are in the set
+    waited : (e : ℕ) → e < 64 → inhibitorsIn rows set set e ≡ setOf (t .events) (λ f. follows t e f && has set f)
+    waited e b =
+        set-by-test (t .events) (inhibitorsIn rows set set e) (λ f. follows t e f && has set f)
+        (λ x h. has-below (t .events) set x fits (either-way (has waits x) (has awaits x) (has set x) (sym (parts set x) ∙ h)))
+        (λ x l. parts set x ∙ turn (has waits x) (has awaits x) (has set x) (every-exists x l) ∙ ap (λ (a : Bool). a && has set x) (sym (parts everyEvent x) ∙ inhibitors-follow e b x))
+      where
+        waits : ℕ
+        waits = bitOr (rowOf rows e 0) (rowOf rows e 1)
 
-    go : (a c : Bool) → (a ≡ true → c ≡ false) → (i h p : Bool) {d e : Bool} → d ≡ (i && not h) → e ≡ (i && p)
-        → ((a || c) && (i && (a && not h || c && p))) ≡ cond a d (cond c e false)
-    go true true f i h p q q′ = absurd (clash refl (f refl))
-    go true false f i h p q q′ = ap (λ (b : Bool). i && b) (or-false (not h)) ∙ sym q
-    go false true f i h p q q′ = sym q′
-    go false false f i h p q q′ = refl
+        awaits : ℕ
+        awaits = rowOf rows e 2
+
+        parts : (s x : ℕ) → has (inhibitorsIn rows s s e) x ≡ (has waits x && has s x || has awaits x && has s x)
+        parts s x = has-or (bitAnd waits s) (bitAnd awaits s) x ∙ ap₂ _||_ (has-and waits s x) (has-and awaits s x)
+
+        every-exists : (x : ℕ) → x < t .events → has everyEvent x ≡ true
+        every-exists x l = has-every x ∙ lt-ltb x 64 (omega (arith, good .few-events))
+
+        either-way : (a c d : Bool) → (a && d || c && d) ≡ true → d ≡ true
+        either-way a c true h = refl
+        either-way a c false h = absurd (clash h (ap₂ _||_ (and-false a) (and-false c)))
+
+        turn : (a c d : Bool) {e : Bool} → e ≡ true → (a && d || c && d) ≡ ((a && e || c && e) && d)
+        turn true c true h = rw h
+        turn true c false h = rw h (and-false c)
+        turn false c d h = rw (h, and-true)
+
+    pub ready-is : (e : ℕ) → e < t .events → readyIn rows set e ≡ ready t set e
+    unfolding ready
+    ready-is e b =
+        ap (λ (a : Bool). has set e && a)
+        (ap (λ (w : ℕ). eqb w 0) (waited e (omega (arith, good .few-events))) ∙ set-empty (λ f. follows t e f && has set f) (t .events))
+
+pub needed-reached : (t : Table) (m : Marking) → Good t m → (rows : List ℕ) → Derived t (t .count) rows → (r : ℕ)
+    → Reached rows (marked m Missing) (marked m Pending) (dueSet m) r → r ≡ needed t m
+needed-reached t m good rows made = needed-along t (good .table-good) rows made m (good .marking-good .same-events)

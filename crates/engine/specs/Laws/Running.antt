@@ -1,8 +1,10 @@
--- A run over a lent list of steps is the run of the definitions: between two steps it stands as the law of a trace says. Assumes nothing.
-use mathlib.Core.Path.{_≡_, refl, ap}
-use mathlib.Core.Bool.{Bool, true, false, _||_, cond}
-use mathlib.Core.List.{List, _++_}
-use Prim.Native.Nat.{ℕ, _<_, _≤_, _+_}
+-- A run over steps is the run of the definitions: what holds between two steps is kept, and after the last of them the run stands as the law
+-- of a trace says. Assumes nothing.
+use mathlib.Core.Path.{_≡_, refl, _∙_, ap, sym, subst}
+use mathlib.Core.Bool.{Bool, true, false, not, _&&_, _||_, cond}
+use mathlib.Core.List.{List, [], _∷_, _++_}
+use mathlib.Core.Logic.{⊎-elim}
+use Prim.Native.Nat.{ℕ, _<_, _≤_, _+_, _*_, _/_}
 use native.Mathlib.Omega.{arith}
 use lib.Dec.{eqb, ltb}
 use lib.ListN.{length, drop, getD, set}
@@ -11,15 +13,76 @@ use Rattle.rules.specs.declared.Table.{Table}
 use Rattle.rules.specs.declared.Marking.{Marking}
 use Rattle.rules.specs.declared.MarkingAnswer.{MarkingAnswer}
 use Rattle.rules.specs.declared.Step.{Step}
-use Rattle.rules.specs.Numbers.{_else_, done}
+use Rattle.rules.specs.declared.CheckAnswer.the-variants.{Accepts}
+use Rattle.rules.specs.Numbers.{_if_, _else_, done, checkNumber}
 use Rattle.rules.specs.Judge.{judged}
-use Rattle.rules.specs.Trace.{traceNumber, run, runAnswers, endOf, answersOf}
-use Rattle.rules.specs.Laws.Tests.{neither}
+use Rattle.rules.specs.Check.{verdict}
+use Rattle.rules.specs.Trace.{stepNumber, stepped, traceNumber, run, runAnswers, endOf, answersOf, stepsIn}
+use Rattle.rules.specs.Laws.Tests.{clash, both, either, neither}
 use Rattle.rules.specs.Laws.Numbers.{if-done, both-done}
-use Rattle.rules.specs.Laws.Trace.{turned, noStep, After, after-none, after-more, after-all}
+use Rattle.rules.specs.Laws.Judge.{GoodTable, good}
+use Rattle.rules.specs.Laws.Trace.{turned, stepped-judged, noStep, steps-length, steps-at, After, after-none, after-more, after-all}
+use Rattle.rules.specs.Demand3.Accepts.{check-parts, check-accepts}
+use Rattle.rules.specs.Demand3.Statements.{still-accepts as accepts-on}
 use Rattle.engine.specs.declared.trace.Running.{Running}
-use Rattle.engine.specs.Running.{begunRun, furtherRun}
+use Rattle.engine.specs.Running.{begunRun, furtherRun, Fit}
+use Rattle.engine.specs.Laws.Taking.{verdict-done}
 
+-- What holds between two steps is kept. Judged values stay judged; a guarded tick that is done shows that the check accepts, and from there
+-- it accepts whatever the steps are (demand 3).
+module _ (t : Table) (r : Running) (kind event : ℕ) (f : Fit t r) where
+  abbrev s : Step
+  s = record { kind = kind; event = event }
+
+  three-told : stepNumber t (r .marking) (record { kind = 3; event = event }) ≡ 0 → checkNumber (verdict t (r .marking)) ≡ 0
+  unfolding stepNumber
+  three-told h = both-done (15 if not (eqb event 0)) (checkNumber (verdict t (r .marking))) h .1
+
+  ticked-accepts : eqb kind 3 && eqb (stepNumber t (r .marking) s) 0 ≡ true → verdict t (r .marking) ≡ Accepts
+  ticked-accepts h =
+      let p = both (eqb kind 3) (eqb (stepNumber t (r .marking) s) 0) h in
+      verdict-done t (r .marking) (three-told (rw (eqb-true kind 3 (p .0)) at (eqb-true (stepNumber t (r .marking) s) 0 (p .1))))
+
+  still-accepts : verdict t (r .marking) ≡ Accepts → verdict t (stepped t (r .marking) s) ≡ Accepts
+  unfolding endOf
+  still-accepts a = check-parts t _ (accepts-on t (r .marking) (check-accepts t (r .marking) (f .judged-done) a) (s ∷ [])) .1
+
+  pub fit-next : Fit t (furtherRun t r kind event)
+  unfolding furtherRun turned
+  fit-next = record {
+    judged-done = stepped-judged t (r .marking) s (f .judged-done);
+    accepts = λ h. still-accepts (⊎-elim (f .accepts) ticked-accepts (either (r .accepted) _ h));
+  }
+
+-- A loop over the steps, after i of them: the marking and the buffer, and what holds between two steps
+module _ (t : Table) (m : Marking) (steps : List Step) (buffer : List ℕ) where
+  pub record Going (i : ℕ) (r : Running) (held : List ℕ) : Type 0 where
+    pub after : After t m steps buffer i (r .marking) held
+    pub fit : judged t m ≡ 0 → Fit t r
+
+  pub going-first : (r : Running) → r .marking ≡ m → r .accepted ≡ false → Going 0 r buffer
+  going-first r e a = record {
+    after = rw e (after-none t m steps buffer);
+    fit = λ h. record { judged-done = rw e h; accepts = λ b. absurd (clash b a) };
+  }
+
+  pub going-more : (i : ℕ) (r : Running) (held : List ℕ) → Going i r held → i < length steps → i < length buffer
+      → {next : Running} → next ≡ furtherRun t r (getD steps i noStep .kind) (getD steps i noStep .event) → Going (i + 1) next (set held i (next .answer))
+  unfolding furtherRun
+  going-more i r held g more room e = subst (λ (k : Running). Going (i + 1) k (set held i (k .answer))) (sym e) record {
+    after = after-more t m steps buffer i (r .marking) held (g .after) more room (turned t (r .marking) (getD steps i noStep .kind) (getD steps i noStep .event)) refl;
+    fit = λ h. fit-next t r (getD steps i noStep .kind) (getD steps i noStep .event) (g .fit h);
+  }
+
+-- the same over bytes
+pub going-byte : (t : Table) (m : Marking) (bytes buffer : List ℕ) (i : ℕ) (r : Running) (held : List ℕ) → Going t m (stepsIn bytes) buffer i r held
+    → i < length bytes / 2 → i < length buffer → {next : Running} → next ≡ furtherRun t r (getD bytes (2 * i) 0) (getD bytes (2 * i + 1) 0)
+    → Going t m (stepsIn bytes) buffer (i + 1) next (set held i (next .answer))
+going-byte t m bytes buffer i r held g more room e =
+    going-more t m (stepsIn bytes) buffer i r held g (omega (arith, steps-length bytes)) room
+    (e ∙ ap (λ (s : Step). furtherRun t r (s .kind) (s .event)) (sym (steps-at bytes i more)))
+
+-- A run over a lent list of steps, of which the whole trace may be refused
 module _ (t : Table) (m : Marking) (steps : List Step) (buffer : List ℕ) where
   -- the number of the whole trace, and how many of its steps are run
   abbrev pub whole : ℕ
@@ -55,18 +118,27 @@ module _ (t : Table) (m : Marking) (steps : List Step) (buffer : List ℕ) where
   unfolding begunRun
   begun-steps = refl
 
+  pub begun-granted : (i : ℕ) → i < budget → begunRun t m (length steps) (length buffer) .number ≡ 0
+  unfolding begunRun
+  begun-granted i b = runs-granted i b
+
+  -- the rows are derived of a trace that is granted
+  pub begun-table : begunRun t m (length steps) (length buffer) .number ≡ 0 → GoodTable t
+  unfolding begunRun
+  begun-table h = good t m (granted h .0) .table-good
+
   pub record Stands (i : ℕ) (r : Running) (held : List ℕ) : Type 0 where
     pub within : i ≤ budget
-    pub after : After t m steps buffer i (r .marking) held
+    pub going : Going t m steps buffer i r held
     pub same-number : r .number ≡ whole
 
   pub stands-first : Stands 0 (begunRun t m (length steps) (length buffer)) buffer
   unfolding begunRun
-  stands-first = record { within = omega arith; after = after-none t m steps buffer; same-number = refl }
+  stands-first = record { within = omega arith; going = going-first t m steps buffer _ refl refl; same-number = refl }
 
   module _ (i : ℕ) (r : Running) (held : List ℕ) (f : Stands i r held) where
-    pub stands-judged : i < budget → judged t (r .marking) ≡ 0
-    stands-judged b = f .after .still-judged (granted (runs-granted i b) .0)
+    pub stands-fit : i < budget → Fit t r
+    stands-fit b = f .going .fit (granted (runs-granted i b) .0)
 
     abbrev next : Running
     next = furtherRun t r (getD steps i noStep .kind) (getD steps i noStep .event)
@@ -76,14 +148,13 @@ module _ (t : Table) (m : Marking) (steps : List Step) (buffer : List ℕ) where
     stands-next b =
         record {
           within = omega arith;
-          after = after-more t m steps buffer i (r .marking) held (f .after) (omega (arith, budget-le .0)) (omega (arith, budget-le .1))
-              (turned t (r .marking) (getD steps i noStep .kind) (getD steps i noStep .event)) refl;
+          going = going-more t m steps buffer i r held (f .going) (omega (arith, budget-le .0)) (omega (arith, budget-le .1)) refl;
           same-number = f .same-number;
         }
 
     none-run : i ≡ 0 → (r .marking ≡ m) × (held ≡ buffer)
     unfolding endOf answersOf
-    none-run at = (rw at at (f .after .marking-is), rw at at (f .after .buffer-is))
+    none-run at = (rw at at (f .going .after .marking-is), rw at at (f .going .after .buffer-is))
 
     pub stands-last : budget ≤ i
         → (record { number = r .number; marking = r .marking } ≡ run t m steps (length buffer)) × (held ≡ runAnswers t m steps buffer)
@@ -94,7 +165,7 @@ module _ (t : Table) (m : Marking) (steps : List Step) (buffer : List ℕ) where
             → _≡_ {A = MarkingAnswer} (record { number = r .number; marking = r .marking }) (record { number = whole; marking = cond c (endOf t m steps) m })
             × (held ≡ cond c (answersOf t m steps ++ drop (length steps) buffer) buffer)
         go true e at =
-            let all = after-all t m steps buffer i (r .marking) held (f .after) at in
+            let all = after-all t m steps buffer i (r .marking) held (f .going .after) at in
             (rw (f .same-number, all .0), all .1)
         go false e at =
             let start = none-run at in

@@ -1,64 +1,56 @@
 -- The taking event after event: the next ready event is the lowest of a word; the state that is carried on is the definition's list of executed
 -- events, their count and the marking; and what an answer of the check says for the guarded tick. Assumes nothing.
 use mathlib.Core.Path.{_≡_, refl, _∙_, ap, ap₂, sym, subst}
-use mathlib.Core.Bool.{Bool, true, false, _&&_, cond}
+use mathlib.Core.Bool.{Bool, true, false, cond}
 use mathlib.Core.List.{List, [], _∷_, _++_, append-nil}
 use mathlib.Core.Logic.{⊎-elim}
 use Prim.Native.Nat.{ℕ, zero, suc, _<_, _≤_, _+_, _-_, _^_}
 use native.Mathlib.Omega.{arith}
-use native.Mathlib.Decide.{ℕ-discrete}
 use native.Mathlib.Numerals.{add-one}
-use lib.Dec.{eqb, ltb}
-use lib.ListN.{length, getD, set, replicate, length-append}
+use lib.Dec.{ltb}
+use lib.ListN.{length, set, replicate, length-append}
 use lib.Seq.{append-snoc, set-at}
-use lib.Bits.{bitAnd}
 use borrow.Author.Tests.{lt-ltb, le-ltb, ne-eqb}
 use Rattle.rules.specs.declared.Table.{Table}
 use Rattle.rules.specs.declared.Marking.{Marking}
 use Rattle.rules.specs.declared.CheckAnswer.{CheckAnswer}
 use Rattle.rules.specs.declared.CheckAnswer.the-variants.{Refused, Accepts, Rejects}
+use Rattle.rules.specs.declared.MarkingAnswer.{MarkingAnswer}
 use Rattle.rules.specs.declared.GuardedAnswer.{GuardedAnswer}
 use Rattle.rules.specs.Counting.{lowest}
-use Rattle.rules.specs.EventSet.{has, setOf}
+use Rattle.rules.specs.EventSet.{has}
 use Rattle.rules.specs.Holds.{recordOf}
 use Rattle.rules.specs.Effect.{effect}
 use Rattle.rules.specs.Time.{time}
+use Rattle.rules.specs.Numbers.{done, checkNumber}
 use Rattle.rules.specs.Judge.{judged}
-use Rattle.rules.specs.Closure.{follows}
 use Rattle.rules.specs.Check.{reason, verdict, check}
 use Rattle.rules.specs.Guard.{ready, orderOf, order, taken, takenAll, executedOf, caused, guarded, guardedTick, needed}
 use Rattle.rules.specs.Laws.Tests.{both}
 use Rattle.rules.specs.Laws.Counting.{Found, Lacks, lowest-cases}
 use Rattle.rules.specs.Laws.Turns.{worth-le}
-use Rattle.rules.specs.Laws.EventSet.{set-has, set-holds}
-use Rattle.rules.specs.Laws.Time.{set-empty}
-use Rattle.rules.specs.Laws.Words.{has-and}
-use Rattle.rules.specs.Laws.Judge.{GoodTable, GoodMarking, Good, good}
+use Rattle.rules.specs.Laws.Judge.{GoodTable, Good}
 use Rattle.rules.specs.Demand3.Facts.{effect-good}
 use Rattle.rules.specs.Laws.Widened.{has-below}
-use Rattle.engine.specs.declared.inhibition.Choice.the-variants.{Ready}
-use Rattle.engine.specs.Rows.{everyEvent, Rows, isChosen, selected}
+use Rattle.engine.specs.Derived.{Derived, readyIn}
 use Rattle.engine.specs.Taking.{answered, nothing, noted, takenOne, carriedOn, afterTick}
-use Rattle.engine.specs.Laws.Followed.{rows-follow}
-use Rattle.engine.specs.Laws.Reasons.{set-by-test}
+use Rattle.engine.specs.Laws.Followed.{ready-is}
+use Rattle.engine.specs.Laws.Reasons.{sought-none, sought-at}
 
--- The next ready event.
-module _ (t : Table) (good : GoodTable t) (rows : List ℕ) (made : Rows t everyEvent everyEvent (t .count) rows) (untaken : ℕ) (fits : untaken < 2 ^ t .events) where
-  -- the untaken inhibitors of e
-  row-waited : (e : ℕ) → e < 64 → bitAnd (getD rows e 0) untaken ≡ setOf (t .events) (λ f. follows t e f && has untaken f)
-  row-waited e b =
-      set-by-test (t .events) (bitAnd (getD rows e 0) untaken) (λ f. follows t e f && has untaken f)
-      (λ x h. has-below (t .events) untaken x fits (both (has (getD rows e 0) x) (has untaken x) (sym (has-and (getD rows e 0) untaken x) ∙ h) .1))
-      (λ x l. has-and (getD rows e 0) untaken x ∙ ap (λ (a : Bool). a && has untaken x) (rows-follow t good rows made e b x))
+-- The next ready event, by words.
+module _ (t : Table) (good : GoodTable t) (rows : List ℕ) (made : Derived t (t .count) rows) (untaken : ℕ) (fits : untaken < 2 ^ t .events)
+    (e : ℕ) (at : e ≡ lowest 64 (readyIn rows untaken)) where
+  same : (x : ℕ) → x < t .events → readyIn rows untaken x ≡ ready t untaken x
+  same = ready-is t good rows made untaken fits
 
-  pub ready-word : selected rows untaken Ready ≡ setOf (t .events) (ready t untaken)
-  unfolding selected ready
-  ready-word =
-      set-by-test (t .events) (setOf 64 (isChosen rows untaken Ready)) (ready t untaken)
-      (λ x h. has-below (t .events) untaken x fits (both (has untaken x) _ (set-holds (isChosen rows untaken Ready) 64 x h .1) .0))
-      (λ x b. let l : x < 64 = omega (arith, good .few-events) in
-      set-has (isChosen rows untaken Ready) 64 x l
-      ∙ ap (λ (a : Bool). has untaken x && a) (ap (λ (w : ℕ). eqb w 0) (row-waited x l) ∙ set-empty (λ f. follows t x f && has untaken f) (t .events)))
+  exists : (x : ℕ) → readyIn rows untaken x ≡ true → x < t .events
+  exists x h = has-below (t .events) untaken x fits (both (has untaken x) _ h .0)
+
+  pub next-none : 63 < e → lowest (t .events) (ready t untaken) ≡ t .events
+  next-none b = sought-none (t .events) 64 e (readyIn rows untaken) (ready t untaken) exists same at (good .few-events) (omega arith)
+
+  pub next-at : e ≤ 63 → (lowest (t .events) (ready t untaken) ≡ e) × (e < t .events)
+  next-at b = sought-at (t .events) 64 e (readyIn rows untaken) (ready t untaken) exists same at (omega arith)
 
 -- The order of taking, one event more.
 module _ (t : Table) (untaken : ℕ) where
@@ -243,37 +235,44 @@ verdict-said t m =
     reason-said 1 _ _ _ (reason-said 2 _ _ _ (reason-said 3 _ _ _ (reason-said 4 _ _ _ (reason-said 5 _ _ _ (reason-said 6 _ _ _ tt)))))
 
 module _ (t : Table) (m : Marking) where
-  pub check-judged : judged t m ≡ 0 → check t m ≡ verdict t m
-  unfolding check
-  check-judged h = rw h
-
-  pub check-refused : (judged t m ≡ 0 → ⊥) → check t m ≡ Refused (judged t m)
-  unfolding check
-  check-refused h = rw (ne-eqb (judged t m) 0 h)
-
-  pub accepted-good : check t m ≡ Accepts → Good t m
-  accepted-good e = go (ℕ-discrete (judged t m) 0)
+  -- a verdict is no refusal, so one without a number accepts
+  pub verdict-done : checkNumber (verdict t m) ≡ 0 → verdict t m ≡ Accepts
+  verdict-done = go (verdict t m) (verdict-said t m)
     where
-      go : Dec (judged t m ≡ 0) → Good t m
-      go (yes h) = good t m h
-      go (no h) = absurd (subst Said (sym e ∙ check-refused h) tt)
+      go : (v : CheckAnswer) → Said v → checkNumber v ≡ 0 → v ≡ Accepts
+      go (Refused number) s h = absurd s
+      go Accepts s h = refl
+      go (Rejects reason place) s h = absurd (omega (arith, h))
 
-  refused-number : (number : ℕ) → check t m ≡ Refused number → number ≡ 0 → ⊥
-  refused-number number e z = go (ℕ-discrete (judged t m) 0)
-    where
-      go : Dec (judged t m ≡ 0) → ⊥
-      go (yes h) = subst Said (sym (check-judged h) ∙ e) (verdict-said t m)
-      go (no h) = let same : Refused (judged t m) ≡ Refused number = sym (check-refused h) ∙ e in let q : judged t m ≡ number = cc in h (q ∙ z)
+  -- what the guarded tick is where the judge refuses ..
+  pub check-refused : (number : ℕ) → number ≡ judged t m → (number ≡ 0 → ⊥) → check t m ≡ Refused number
+  unfolding check
+  check-refused number e h = rw (← e, ne-eqb number 0 h)
 
-  -- and what the guarded tick then is
-  pub tick-refused : (number : ℕ) → check t m ≡ Refused number → nothing number 0 0 m ≡ guardedTick t m
+  pub tick-unjudged : {number : ℕ} → number ≡ judged t m → (number ≡ 0 → ⊥) → nothing number 0 0 m ≡ guardedTick t m
   unfolding guardedTick
-  tick-refused number e = rw (e, ne-eqb number 0 (refused-number number e))
+  tick-unjudged {number} e h = rw (check-refused number e h, ne-eqb number 0 h)
 
-  pub tick-rejected : (reason place : ℕ) → check t m ≡ Rejects reason place → nothing 12 reason place m ≡ guardedTick t m
-  unfolding guardedTick
-  tick-rejected reason place e = rw e
+  -- .. and by the verdict
+  module _ (judged-done : judged t m ≡ 0) where
+    pub check-judged : check t m ≡ verdict t m
+    unfolding check
+    check-judged = rw judged-done
 
-  pub tick-accepted : check t m ≡ Accepts → answered 0 0 0 (caused t m) (guarded t m) ≡ guardedTick t m
-  unfolding guardedTick
-  tick-accepted e = rw e
+    pub tick-refused : (number : ℕ) → verdict t m ≡ Refused number → nothing number 0 0 m ≡ guardedTick t m
+    tick-refused number e = absurd (subst Said e (verdict-said t m))
+
+    pub tick-rejected : (reason place : ℕ) → verdict t m ≡ Rejects reason place → nothing 12 reason place m ≡ guardedTick t m
+    unfolding guardedTick
+    tick-rejected reason place e = rw (check-judged, e)
+
+    pub tick-accepted : verdict t m ≡ Accepts → answered 0 0 0 (caused t m) (guarded t m) ≡ guardedTick t m
+    unfolding guardedTick
+    tick-accepted e = rw (check-judged, e)
+
+    -- what a trace takes of it
+    pub tick-told : (a : GuardedAnswer) → a ≡ guardedTick t m
+        → _≡_ {A = MarkingAnswer} (record { number = a .number; marking = a .marking })
+        (record { number = checkNumber (verdict t m); marking = done (checkNumber (verdict t m)) (guarded t m) m })
+    unfolding guardedTick
+    tick-told a e = ap (λ (g : GuardedAnswer). record { number = g .number; marking = g .marking }) e ∙ rw check-judged

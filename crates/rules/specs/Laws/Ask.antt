@@ -1,9 +1,9 @@
 -- Request and report are one ask, of an event of the class that is wanted; what its number is, step by step; what is granted was enabled, and
 -- an existing event of the class that is not enabled is refused with 10. Assumes nothing.
-use mathlib.Core.Path.{_≡_, refl, _∙_, sym}
+use mathlib.Core.Path.{_≡_, refl}
 use mathlib.Core.Bool.{Bool, true, false, not, cond, Bool·beq}
-use Prim.Native.Nat.{ℕ, _<_}
-use borrow.Author.Tests.{lt-ltb}
+use Prim.Native.Nat.{ℕ, _<_, _≤_}
+use borrow.Author.Tests.{lt-ltb, le-ltb}
 use Rattle.rules.specs.declared.Table.{Table}
 use Rattle.rules.specs.declared.Marking.{Marking}
 use Rattle.rules.specs.declared.MarkingAnswer.{MarkingAnswer}
@@ -14,8 +14,7 @@ use Rattle.rules.specs.Enabled.{isEnabled}
 use Rattle.rules.specs.Effect.{effect}
 use Rattle.rules.specs.Ask.{requestNumber, reportNumber, request, report}
 use Rattle.rules.specs.Laws.Tests.{not-false}
-use Rattle.rules.specs.Laws.Told.{stands}
-use Rattle.rules.specs.Laws.Numbers.{if-done, both-done, else-done, else-assoc}
+use Rattle.rules.specs.Laws.Numbers.{if-done, both-done}
 
 -- an event is of the other class: a request wants a controllable one, a report an uncontrollable
 abbrev pub other : Bool → Table → ℕ → Bool
@@ -43,30 +42,23 @@ other-same true false = refl
 other-same false true = refl
 other-same false false = refl
 
--- the judge and the event's number come first, then the class, then whether the event is enabled
+-- of a judged table and marking: the event's number comes first, then the class, then whether the event is enabled
 module _ (wanted : Bool) (t : Table) (m : Marking) (e : ℕ) where
-  joined : (judged t m else askNumber wanted t m e)
-      ≡ ((judged t m else eventNumber t e) else (9 if other wanted t e else 10 if not (isEnabled t m e)))
+  pub ask-granted : e < t .events → Bool·beq (isControllable t e) wanted ≡ true → isEnabled t m e ≡ true → 0 ≡ askNumber wanted t m e
   unfolding askNumber
-  joined = sym (else-assoc (judged t m) (eventNumber t e) (9 if other wanted t e else 10 if not (isEnabled t m e)))
+  ask-granted b k f = rw (lt-ltb e (t .events) b, other-same (isControllable t e) wanted, k, f)
 
-  ask-judged : (judged t m else eventNumber t e) ≡ 0 → (judged t m else askNumber wanted t m e) ≡ (9 if other wanted t e else 10 if not (isEnabled t m e))
-  ask-judged h = joined ∙ else-done _ h
+  pub ask-held : e < t .events → Bool·beq (isControllable t e) wanted ≡ true → isEnabled t m e ≡ false → 10 ≡ askNumber wanted t m e
+  unfolding askNumber
+  ask-held b k f = rw (lt-ltb e (t .events) b, other-same (isControllable t e) wanted, k, f)
 
-  pub ask-granted : (judged t m else eventNumber t e) ≡ 0 → Bool·beq (isControllable t e) wanted ≡ true → isEnabled t m e ≡ true
-      → 0 ≡ (judged t m else askNumber wanted t m e)
-  ask-granted h k f = rw (ask-judged h, other-same (isControllable t e) wanted, k, f)
+  pub ask-other : e < t .events → Bool·beq (isControllable t e) wanted ≡ false → 9 ≡ askNumber wanted t m e
+  unfolding askNumber
+  ask-other b k = rw (lt-ltb e (t .events) b, other-same (isControllable t e) wanted, k)
 
-  pub ask-held : (judged t m else eventNumber t e) ≡ 0 → Bool·beq (isControllable t e) wanted ≡ true → isEnabled t m e ≡ false
-      → 10 ≡ (judged t m else askNumber wanted t m e)
-  ask-held h k f = rw (ask-judged h, other-same (isControllable t e) wanted, k, f)
-
-  pub ask-other : (judged t m else eventNumber t e) ≡ 0 → Bool·beq (isControllable t e) wanted ≡ false
-      → 9 ≡ (judged t m else askNumber wanted t m e)
-  ask-other h k = rw (ask-judged h, other-same (isControllable t e) wanted, k)
-
-  pub ask-refused : {n : ℕ} → n ≡ (judged t m else eventNumber t e) → (n ≡ 0 → ⊥) → n ≡ (judged t m else askNumber wanted t m e)
-  ask-refused p h = stands _ p h ∙ sym joined
+  pub ask-missing : t .events ≤ e → 8 ≡ askNumber wanted t m e
+  unfolding askNumber
+  ask-missing b = rw (le-ltb e (t .events) b)
 
 -- what is granted was enabled
 pub asked-granted : (wanted : Bool) (t : Table) (m : Marking) (e : ℕ) → asked wanted t m e .number ≡ 0 → isEnabled t m e ≡ true

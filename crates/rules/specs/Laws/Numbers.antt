@@ -19,10 +19,7 @@ pub if-done : (n : ℕ) (b : Bool) → (suc n) if b ≡ 0 → b ≡ false
 if-done n true h = absurd (omega (arith, h))
 if-done n false h = refl
 
--- 'done' asks the next; any other number stands
-pub else-done : {a : ℕ} (b : ℕ) → a ≡ 0 → (a else b) ≡ b
-else-done b p = rw p
-
+-- a number that is not 'done' stands
 pub else-refused : {a : ℕ} (b : ℕ) → (a ≡ 0 → ⊥) → (a else b) ≡ a
 else-refused {a = zero} b h = absurd (h refl)
 else-refused {a = suc a} b h = refl
@@ -30,10 +27,6 @@ else-refused {a = suc a} b h = refl
 pub both-done : (a b : ℕ) → (a else b) ≡ 0 → (a ≡ 0) × (b ≡ 0)
 both-done zero b h = (refl, h)
 both-done (suc a) b h = absurd (omega (arith, h))
-
-pub else-assoc : (a b c : ℕ) → ((a else b) else c) ≡ (a else (b else c))
-else-assoc zero b c = refl
-else-assoc (suc a) b c = refl
 
 module _ (f : ℕ → ℕ) where
   -- nothing yet, and nothing from place i: nothing yet

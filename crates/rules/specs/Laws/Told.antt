@@ -25,13 +25,17 @@ stands next p h = p ∙ sym (else-refused next (λ z. h (p ∙ z)))
 pub few-marked : {t : Table} {m : Marking} → Good t m → m .events ≤ 64
 few-marked g = omega (arith, g .marking-good .same-events, g .table-good .few-events)
 
+-- an event that exists fits a word
+pub event-fits : {t : Table} {m : Marking} {e : ℕ} → Good t m → e < t .events → e < 64
+event-fits g b = omega (arith, g .table-good .few-events)
+
 -- the event asked about exists
 pub event-told : (t : Table) (m : Marking) (e : ℕ) → (judged t m else eventNumber t e) ≡ 0 → Good t m × (e < 64)
 event-told t m e h =
     let p = both-done (judged t m) (eventNumber t e) h in
     let g = good t m (p .0) in
     let exists = ltb-true e (t .events) (not-false (ltb e (t .events)) (if-done 7 (not (ltb e (t .events))) (p .1))) in
-    (g, omega (arith, exists, g .table-good .few-events))
+    (g, event-fits g exists)
 
 -- an age, and a time, are at most the limit
 pub age-fits : (r : Record) → recordFits r ≡ true → r .age ≤ limit

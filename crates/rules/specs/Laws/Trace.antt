@@ -14,8 +14,8 @@ use Rattle.rules.specs.declared.Table.{Table}
 use Rattle.rules.specs.declared.Marking.{Marking}
 use Rattle.rules.specs.declared.Step.{Step}
 use Rattle.rules.specs.declared.MarkingAnswer.{MarkingAnswer}
-use Rattle.rules.specs.Numbers.{_if_, _else_, done, checkNumber}
-use Rattle.rules.specs.Judge.{judged, eventNumber}
+use Rattle.rules.specs.Numbers.{_if_, done, checkNumber}
+use Rattle.rules.specs.Judge.{judged}
 use Rattle.rules.specs.Holds.{recordOf}
 use Rattle.rules.specs.Effect.{effect}
 use Rattle.rules.specs.Time.{time, plainTickNumber}
@@ -133,10 +133,6 @@ wrong-event kind event a b e = or-right (ltb 3 kind) _ (join (le-leb 2 kind (ome
 pub wrong-kind : (kind event : ℕ) → (kind ≡ 0 → ⊥) → (kind ≡ 1 → ⊥) → (kind ≡ 2 → ⊥) → (kind ≡ 3 → ⊥) → (ltb 3 kind || leb 2 kind && not (eqb event 0)) ≡ true
 wrong-kind kind event a b c d = or-left (ltb 3 kind) _ (lt-ltb 3 kind (omega arith))
 
--- an event that exists
-pub exists-told : (t : Table) (m : Marking) (e : ℕ) → judged t m ≡ 0 → e < t .events → (judged t m else eventNumber t e) ≡ 0
-exists-told t m e h b = rw (h, lt-ltb e (t .events) b)
-
 -- Bytes as steps
 abbrev pub noStep : Step
 noStep = record { kind = 0; event = 0 }
@@ -158,11 +154,10 @@ module _ (t : Table) (m : Marking) (steps : List Step) (buffer : List ℕ) where
     pub marking-is : now ≡ endOf t m (take i steps)
     pub buffer-is : held ≡ answersOf t m (take i steps) ++ drop i buffer
     pub same-room : length held ≡ length buffer
-    pub still-judged : judged t m ≡ 0 → judged t now ≡ 0
 
   pub after-none : After 0 m buffer
   unfolding endOf answersOf
-  after-none = record { marking-is = refl; buffer-is = refl; same-room = refl; still-judged = λ h. h }
+  after-none = record { marking-is = refl; buffer-is = refl; same-room = refl }
 
   module _ (i : ℕ) (now : Marking) (held : List ℕ) (f : After i now held) (more : i < length steps) (room : i < length buffer) where
     abbrev s : Step
@@ -194,7 +189,6 @@ module _ (t : Table) (m : Marking) (steps : List Step) (buffer : List ℕ) where
       marking-is = marks;
       buffer-is = writes;
       same-room = length-set held i (stepNumber t now s) ∙ f .same-room;
-      still-judged = λ h. stepped-judged t now s (f .still-judged h);
     }
 
   -- all of them
@@ -208,12 +202,6 @@ module _ (t : Table) (m : Marking) (steps : List Step) (buffer : List ℕ) where
 
 -- the same over bytes
 module _ (t : Table) (m : Marking) (bytes buffer : List ℕ) (i : ℕ) (now : Marking) (held : List ℕ) (f : After t m (stepsIn bytes) buffer i now held) where
-  pub after-byte-step : i < length bytes / 2 → i < length buffer → (r : MarkingAnswer) → r ≡ turned t now (getD bytes (2 * i) 0) (getD bytes (2 * i + 1) 0)
-      → After t m (stepsIn bytes) buffer (i + 1) (r .marking) (set held i (r .number))
-  after-byte-step more room r e =
-      after-more t m (stepsIn bytes) buffer i now held f (omega (arith, steps-length bytes)) room r
-      (e ∙ ap (λ (s : Step). turned t now (s .kind) (s .event)) (sym (steps-at bytes i more)))
-
   pub after-all-bytes : i ≡ length bytes / 2 → (now ≡ endOf t m (stepsIn bytes)) × (held ≡ answersOf t m (stepsIn bytes) ++ drop (length bytes / 2) buffer)
   after-all-bytes e =
       let all = after-all t m (stepsIn bytes) buffer i now held f (e ∙ sym (steps-length bytes)) in

@@ -1,27 +1,27 @@
--- The number decides: the effect where it is 'done', the marking that was handed in where it is not. Assumes nothing.
+-- Judged values are asked; a refusal of the judge stands, with the marking that was handed in. Assumes nothing.
 use mathlib.Core.Path.{sym, _∙_}
 use borrow.Author.Tests.{ne-eqb}
 use borrow.Author.Needs.{needs}
-use Rattle.rules.specs.Judge.{judged}
-use Rattle.rules.specs.Laws.Numbers.{both-done}
-use Rattle.rules.specs.Laws.Judge.{good}
+use Rattle.rules.specs.Laws.Told.{stands}
 use Rattle.rules.specs.Laws.Ask.{askNumber, asked}
 use Rattle.engine.proofs.ask.ask.Statement.{statement}
 use Rattle.engine.proofs.ask.ask.Tie as tie
 
-ask-number-requires : tie.Need-ask-number-requires
-ask-number-requires c κs = search needs
+judge-requires : tie.Need-judge-requires
+judge-requires c κs = search needs
 
-effect-requires : tie.Need-effect-requires
-effect-requires c κs = good _ _ (both-done (judged _ _) (askNumber _ _ _ _) (sym (c .before .ask-number .ensures) ∙ c .if1 .taken) .0)
+asked-requires : tie.Need-asked-requires
+asked-requires c κs = search needs
 
 returns : tie.Need-returns
 unfolding asked
-returns c = rw (sym (c .before .before .ask-number .ensures) ∙ c .before .if1 .taken, c .effect .ensures)
+returns c = rw (sym (c .before .before .judge .ensures) ∙ c .before .if1 .taken, c .asked .ensures)
 
 returns-2 : tie.Need-returns-2
 unfolding asked
-returns-2 c = rw (← c .before .ask-number .ensures, ne-eqb _ _ (c .if1 .left))
+returns-2 c =
+    let a = c .before .before .args in
+    rw (← stands (askNumber (a .controllable) (a .t) (a .m) (a .event)) (c .before .judge .ensures) (c .if1 .left), ne-eqb _ _ (c .if1 .left))
 
 pub ask-spec : {M : Type 1} → statement M
-ask-spec = tie.close (tie.spec ask-number-requires effect-requires returns returns-2)
+ask-spec = tie.close (tie.spec judge-requires asked-requires returns returns-2)

@@ -1,41 +1,34 @@
--- Rounds from the busy events over the rows of every inhibitor. Assumes nothing.
+-- What is reached from the busy events by every inhibitor. Assumes nothing.
 use mathlib.Core.Path.{_∙_, ap}
 use Prim.Native.Nat.{ℕ}
+use native.Mathlib.Omega.{arith}
 use lib.Bits.{bitOr}
-use borrow.Author.Needs.{needs}
-use Rattle.rules.specs.Counting.{repeated}
-use Rattle.rules.specs.EventSet.{setOf}
-use Rattle.rules.specs.Holds.{relationOf}
-use Rattle.rules.specs.Closure.{busy, followed, closure}
-use Rattle.rules.specs.Laws.EventSet.{set-lt-power}
-use Rattle.engine.specs.Rows.{everyEvent, joined}
-use Rattle.engine.specs.Laws.Followed.{joined-fully, follows-all}
+use Rattle.engine.specs.Laws.Followed.{closure-reached}
 use Rattle.engine.specs.Laws.Reasons.{busy-word}
 use Rattle.engine.proofs.reasons.closure.Statement.{statement}
 use Rattle.engine.proofs.reasons.closure.Tie as tie
 
 marked-requires : tie.Need-marked-requires
-marked-requires c κs = search needs
+marked-requires c κs = let good = c .before .pre .0 in omega (arith, good .marking-good .same-events, good .table-good .few-events)
 
-picked-requires : tie.Need-picked-requires
-picked-requires c κs = search needs
+first-requires : tie.Need-first-requires
+first-requires c κs = let good = c .before .before .pre .0 .table-good in (omega (arith, good .some-events), good .few-events)
 
-joined-fully-requires : tie.Need-joined-fully-requires
-joined-fully-requires c κs = search needs
+led-to-requires : tie.Need-led-to-requires
+led-to-requires c κs = (c .before .before .before .pre .1 .size, omega arith)
+
+reached-requires : tie.Need-reached-requires
+reached-requires c κs = c .before .before .before .before .pre .1 .size
 
 returns : tie.Need-returns
-unfolding closure
 returns c =
-    let s = c .before .before .before in
-    let t = s .args .t in
-    let m = s .args .m in
-    let good = s .pre .0 .table-good in
-    c .joined-fully .ensures
-    ∙ ap (repeated (t .events) (joined (s .args .rows)))
-    (ap (λ (w : ℕ). bitOr w (c .before .picked .result)) (c .before .before .marked .ensures)
-    ∙ busy-word t m (s .pre .0) (c .before .picked .result) (c .before .picked .ensures))
-    ∙ joined-fully t good everyEvent everyEvent (s .args .rows) (s .pre .1) (λ k. followed (relationOf t k)) (follows-all t good)
-    (setOf (t .events) (busy t m)) (set-lt-power (busy t m) (t .events))
+    let h = c .before in
+    let s = h .before .before .before .before in
+    closure-reached (s .args .t) (s .pre .0 .table-good) _ (s .pre .1) (s .args .m) _ _
+    (ap (λ (w : ℕ). bitOr w (h .led-to .result)) (h .before .before .marked .ensures)
+    ∙ busy-word (s .args .t) (s .args .m) (s .pre .0) _ (s .pre .1) _ (h .before .first .ensures) (h .led-to .result) (h .led-to .ensures))
+    (c .reached .ensures)
 
 pub closure-spec : {M : Type 1} → statement M
-closure-spec = tie.close (tie.spec marked-requires picked-requires joined-fully-requires returns)
+closure-spec =
+    tie.close (tie.spec marked-requires first-requires led-to-requires reached-requires returns)

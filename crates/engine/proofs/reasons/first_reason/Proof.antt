@@ -6,7 +6,7 @@ use borrow.Author.Needs.{needs}
 use Rattle.rules.specs.Counting.{lowest}
 use Rattle.rules.specs.Laws.Counting.{lowest-zero, lowest-more, lowest-here}
 use Rattle.engine.specs.Reasons.{isReason, firstReason}
-use Rattle.engine.specs.Laws.Collect.{left-small, right-small}
+use Rattle.engine.specs.Laws.Derived.{left-small, right-small}
 use Rattle.engine.proofs.reasons.first_reason.Statement.{statement}
 use Rattle.engine.proofs.reasons.first_reason.Tie as tie
 

@@ -1,62 +1,23 @@
--- Each reason in turn: its word is empty, or its lowest event is the place; its first relation is past the count, or is the place.
--- Assumes nothing.
-use mathlib.Core.Path.{_≡_, _∙_, ap, sym}
-use mathlib.Core.List.{List}
-use Prim.Native.Nat.{ℕ}
+-- Each reason in turn: its word is empty and there is none, or it is not and the lowest event or relation is the place. Assumes nothing.
+use mathlib.Core.Path.{_≡_, refl, _∙_, sym}
+use native.Mathlib.Omega.{arith}
+use lib.Bits.{bitOr, bitAnd}
 use Rattle.rules.specs.declared.CheckAnswer.the-variants.{Accepts}
 use Rattle.rules.specs.Counting.{lowest}
 use Rattle.rules.specs.EventSet.{setOf}
 use Rattle.rules.specs.Check.{uncausable, waiting, onCycle, reopening, reviving, reason}
-use Rattle.engine.specs.declared.inhibition.Choice.the-variants.{Cyclic}
-use Rattle.engine.specs.Rows.{selected}
-use Rattle.engine.specs.Reasons.{verdictOf}
-use Rattle.engine.specs.Laws.Reasons.{uncausable-word, cyclic-word, first-waiting, first-reopening, first-reviving, place-none, place-at, place-small, relation-none, reason-none, reason-at}
+use Rattle.engine.specs.Reasons.{Ends, verdictOf}
+use Rattle.engine.specs.Laws.Ends.{ends-none, ends-some}
+use Rattle.engine.specs.Laws.Reasons.{place-none, place-at, sought-none, sought-at, uncausable-word, cyclic-exists, waiting-ends, first-waiting, reopening-ends, first-reopening, reviving-ends, first-reviving, reason-none, reason-at}
 use Rattle.engine.proofs.reasons.verdict_of.Statement.{statement}
 use Rattle.engine.proofs.reasons.verdict_of.Tie as tie
 
--- 2
-uncausable-made : (c : tie.After-without) → c .without .result ≡ setOf (c .before .args .t .events) (uncausable (c .before .args .t) (c .before .args .closed))
-uncausable-made c = let s = c .before in uncausable-word (s .args .t) (s .pre .0) (s .args .closed) (s .pre .1 .0) (c .without .result) (c .without .ensures)
-
-none-uncausable : (c : tie.Else1) → let s = c .before .before in lowest (s .args .t .events) (uncausable (s .args .t) (s .args .closed)) ≡ s .args .t .events
-none-uncausable c = place-none _ _ _ (c .before .before .pre .0 .few-events) (uncausable-made (c .before)) (c .if1 .left)
-
--- 3
-waiting-made : (c : tie.After-first-reason) → let s = c .before .before .before in c .first-reason .result ≡ lowest (s .args .t .count) (waiting (s .args .t) (s .args .closed))
-waiting-made c = c .first-reason .ensures ∙ first-waiting _ _
-
-none-waiting : (c : tie.Else2) → let s = c .before .before .before .before .before in lowest (s .args .t .count) (waiting (s .args .t) (s .args .closed)) ≡ s .args .t .count
-none-waiting c = relation-none _ _ _ (waiting-made (c .before .before)) (c .if2 .left)
-
--- 4
-cyclic-made : (c : tie.After-selected) → let s = c .before .before .before .before .before .before .before in
-    c .selected .result ≡ setOf (s .args .t .events) (onCycle (s .args .t) (s .args .closed))
-cyclic-made c =
-    let s = c .before .before .before .before .before .before .before in
-    c .selected .ensures
-    ∙ ap (λ (l : List ℕ). selected l (s .args .closed) Cyclic) (c .before .awaited .ensures)
-    ∙ cyclic-word (s .args .t) (s .pre .0) (s .args .closed) (s .pre .1 .0) (s .args .rows) (s .pre .1 .1)
-
-none-cyclic : (c : tie.Else3) → let s = c .before .before .before .before .before .before .before .before in
-    lowest (s .args .t .events) (onCycle (s .args .t) (s .args .closed)) ≡ s .args .t .events
-none-cyclic c = place-none _ _ _ (c .before .before .before .before .before .before .before .before .pre .0 .few-events) (cyclic-made (c .before)) (c .if3 .left)
-
--- 5
-reopening-made : (c : tie.After-first-reason2) → let s = c .before .before .before .before .before .before .before .before .before .before in
-    c .first-reason2 .result ≡ lowest (s .args .t .count) (reopening (s .args .t) (s .args .closed))
-reopening-made c = c .first-reason2 .ensures ∙ first-reopening _ _ _ (c .before .picked .ensures)
-
-none-reopening : (c : tie.Else4) → let s = c .before .before .before .before .before .before .before .before .before .before .before .before in
-    lowest (s .args .t .count) (reopening (s .args .t) (s .args .closed)) ≡ s .args .t .count
-none-reopening c = relation-none _ _ _ (reopening-made (c .before .before)) (c .if4 .left)
-
--- 6
-reviving-made : (c : tie.After-first-reason3) → let s = c .before .before .before .before .before .before .before .before .before .before .before .before .before in
-    c .first-reason3 .result ≡ lowest (s .args .t .count) (reviving (s .args .t) (s .args .closed))
-reviving-made c = c .first-reason3 .ensures ∙ first-reviving _ _
-
 without-requires : tie.Need-without-requires
 without-requires c κs = tt
+
+-- 2
+uncausable-made : (c : tie.After-without) → let s = c .before .before in c .without .result ≡ setOf (s .args .t .events) (uncausable (s .args .t) (s .args .closed))
+uncausable-made c = let s = c .before .before in uncausable-word (s .args .t) (s .args .closed) (s .pre .1 .0) (c .without .result) (c .without .ensures)
 
 lowest-requires : tie.Need-lowest-requires
 lowest-requires c κs = tt
@@ -64,68 +25,119 @@ lowest-requires c κs = tt
 returns : tie.Need-returns
 unfolding verdictOf
 returns c =
-    let few = c .before .before .before .pre .0 .few-events in
-    let made = uncausable-made (c .before .before) in
-    sym (reason-at 2 _ _ _ _ (place-at _ _ _ few made (c .before .if1 .taken) ∙ sym (c .lowest .ensures))
-    (rw (c .lowest .ensures) (place-small _ _ _ few made (c .before .if1 .taken))))
+    let h = c .before .before in
+    let s = h .before .before in
+    sym (reason-at 2 _ _ _ _ (place-at _ _ _ (s .pre .0 .few-events) (uncausable-made h) _ (c .lowest .ensures) (c .before .if1 .taken)))
+
+-- what is left past the second
+past-two : (c : tie.Else1) → let s = c .before .before .before in let t = s .args .t in let closed = s .args .closed in
+    verdictOf t closed
+    ≡ reason 3 (t .count) (waiting t closed) (reason 4 (t .events) (onCycle t closed) (reason 5 (t .count) (reopening t closed) (reason 6 (t .count) (reviving t closed) Accepts)))
+unfolding verdictOf
+past-two c = reason-none 2 _ _ _ (place-none _ _ _ (c .before .before .before .pre .0 .few-events) (uncausable-made (c .before)) (c .if1 .left))
+
+-- 3
+led-to-requires : tie.Need-led-to-requires
+led-to-requires c κs = (c .before .before .before .pre .1 .1 .size, omega arith)
+
+timed-end : (c : tie.After-led-to) → let s = c .before .before .before .before in Ends (s .args .t) (waiting (s .args .t) (s .args .closed)) (c .led-to .result)
+timed-end c = let s = c .before .before .before .before in waiting-ends _ (s .pre .0) _ (s .pre .1 .1) _ _ (c .led-to .ensures)
 
 first-reason-requires : tie.Need-first-reason-requires
-first-reason-requires c κs = c .before .before .pre .0
+first-reason-requires c κs = c .before .before .before .before .before .pre .0
 
 returns-2 : tie.Need-returns-2
-unfolding verdictOf
 returns-2 c =
-    sym (reason-none 2 _ _ _ (none-uncausable (c .before .before .before)) ∙ reason-at 3 _ _ _ _ (sym (waiting-made (c .before .before))) (c .if2 .taken))
+    let h = c .before .before in
+    let s = h .before .before .before .before in
+    let found = c .first-reason .ensures ∙ first-waiting _ _ in
+    sym (past-two (h .before) ∙ reason-at 3 _ _ _ _ (sym found, rw found (ends-some _ (s .pre .0) _ _ (timed-end h) (c .before .if2 .taken))))
 
-awaited-requires : tie.Need-awaited-requires
-awaited-requires c κs = tt
+past-three : (c : tie.Else2) → let s = c .before .before .before .before .before in let t = s .args .t in let closed = s .args .closed in
+    verdictOf t closed ≡ reason 4 (t .events) (onCycle t closed) (reason 5 (t .count) (reopening t closed) (reason 6 (t .count) (reviving t closed) Accepts))
+past-three c =
+    past-two (c .before .before) ∙ reason-none 3 _ _ _ (ends-none (c .before .before .before .before .before .args .t) _ _ (timed-end (c .before)) (c .if2 .left))
 
-selected-requires : tie.Need-selected-requires
-selected-requires c κs = tt
+-- 4
+first-cyclic-requires : tie.Need-first-cyclic-requires
+first-cyclic-requires c κs = c .before .before .before .before .before .pre .1 .1 .size
 
-lowest-requires-2 : tie.Need-lowest-requires-2
-lowest-requires-2 c κs = tt
+cyclic-made : (c : tie.After-first-cyclic) → let s = c .before .before .before .before .before .before in
+    c .first-cyclic .result ≡ lowest 64 (onCycle (s .args .t) (s .args .closed))
+cyclic-made c = let s = c .before .before .before .before .before .before in c .first-cyclic .ensures (s .args .t) (s .pre .0) (s .pre .1 .1) (s .pre .1 .0)
 
 returns-3 : tie.Need-returns-3
-unfolding verdictOf
 returns-3 c =
-    let h = c .before .before .before .before in
-    let few = h .before .before .before .before .before .pre .0 .few-events in
-    let made = cyclic-made (c .before .before) in
-    sym (reason-none 2 _ _ _ (none-uncausable (h .before .before .before)) ∙ reason-none 3 _ _ _ (none-waiting h)
-    ∙ reason-at 4 _ _ _ _ (place-at _ _ _ few made (c .before .if3 .taken) ∙ sym (c .lowest2 .ensures))
-    (rw (c .lowest2 .ensures) (place-small _ _ _ few made (c .before .if3 .taken))))
+    let h = c .before .before in
+    let s = h .before .before .before .before .before in
+    let t = s .args .t in
+    let closed = s .args .closed in
+    sym (past-three h
+    ∙ reason-at 4 _ _ _ _ (sought-at (t .events) 64 _ (onCycle t closed) (onCycle t closed) (cyclic-exists t closed (s .pre .1 .0)) (λ x b. refl) (cyclic-made (c .before)) (c .if3 .taken)))
 
-picked-requires : tie.Need-picked-requires
-picked-requires c κs = c .before .before .before .before .before .before .before .before .pre .0
+past-four : (c : tie.Else3) → let s = c .before .before .before .before .before .before .before in let t = s .args .t in let closed = s .args .closed in
+    verdictOf t closed ≡ reason 5 (t .count) (reopening t closed) (reason 6 (t .count) (reviving t closed) Accepts)
+past-four c =
+    let s = c .before .before .before .before .before .before .before in
+    let t = s .args .t in
+    let closed = s .args .closed in
+    past-three (c .before .before)
+    ∙ reason-none 4 _ _ _
+    (sought-none (t .events) 64 _ (onCycle t closed) (onCycle t closed) (cyclic-exists t closed (s .pre .1 .0)) (λ x b. refl) (cyclic-made (c .before)) (s .pre .0 .few-events) (c .if3 .left))
+
+-- 5
+led-to-requires-2 : tie.Need-led-to-requires-2
+led-to-requires-2 c κs = (c .before .before .before .before .before .before .before .pre .1 .1 .size, omega arith)
+
+led-to-requires-3 : tie.Need-led-to-requires-3
+led-to-requires-3 c κs = (c .before .before .before .before .before .before .before .before .pre .1 .1 .size, omega arith)
+
+led-to-requires-4 : tie.Need-led-to-requires-4
+led-to-requires-4 c κs = (c .before .before .before .before .before .before .before .before .before .pre .1 .1 .size, omega arith)
+
+reopened-end : (c : tie.After-led-to4) → let s = c .before .before .before .before .before .before .before .before .before .before in
+    Ends (s .args .t) (reopening (s .args .t) (s .args .closed)) (bitAnd (bitOr (c .before .led-to3 .result) (c .led-to4 .result)) (c .before .before .led-to2 .result))
+reopened-end c =
+    let s = c .before .before .before .before .before .before .before .before .before .before in
+    reopening-ends _ (s .pre .0) _ (s .pre .1 .1) _ _ _ _ (c .before .before .led-to2 .ensures) (c .before .led-to3 .ensures) (c .led-to4 .ensures)
 
 first-reason-requires-2 : tie.Need-first-reason-requires-2
-first-reason-requires-2 c κs = c .before .before .before .before .before .before .before .before .before .pre .0
-
--- what is known past the first four
-past-four : (c : tie.Else3) → let s = c .before .before .before .before .before .before .before .before in
-    verdictOf (s .args .t) (s .args .closed) ≡ reason 5 (s .args .t .count) (reopening (s .args .t) (s .args .closed)) (reason 6 (s .args .t .count) (reviving (s .args .t) (s .args .closed)) Accepts)
-unfolding verdictOf
-past-four c =
-    let h = c .before .before .before in
-    reason-none 2 _ _ _ (none-uncausable (h .before .before .before)) ∙ reason-none 3 _ _ _ (none-waiting h) ∙ reason-none 4 _ _ _ (none-cyclic c)
+first-reason-requires-2 c κs = c .before .before .before .before .before .before .before .before .before .before .before .pre .0
 
 returns-4 : tie.Need-returns-4
-returns-4 c = sym (past-four (c .before .before .before .before) ∙ reason-at 5 _ _ _ _ (sym (reopening-made (c .before .before))) (c .if4 .taken))
+returns-4 c =
+    let h = c .before .before in
+    let s = h .before .before .before .before .before .before .before .before .before .before in
+    let found = c .first-reason2 .ensures ∙ first-reopening _ (s .pre .0) _ (s .pre .1 .1) _ _ (h .before .before .led-to2 .ensures) in
+    sym (past-four (h .before .before .before) ∙ reason-at 5 _ _ _ _ (sym found, rw found (ends-some _ (s .pre .0) _ _ (reopened-end h) (c .before .if4 .taken))))
+
+past-five : (c : tie.Else4) → let s = c .before .before .before .before .before .before .before .before .before .before .before in let t = s .args .t in let closed = s .args .closed in
+    verdictOf t closed ≡ reason 6 (t .count) (reviving t closed) Accepts
+past-five c =
+    past-four (c .before .before .before .before) ∙ reason-none 5 _ _ _ (ends-none (c .before .before .before .before .before .before .before .before .before .before .before .args .t) _ _ (reopened-end (c .before)) (c .if4 .left))
+
+-- 6
+led-to-requires-5 : tie.Need-led-to-requires-5
+led-to-requires-5 c κs = (c .before .before .before .before .before .before .before .before .before .before .before .pre .1 .1 .size, omega arith)
+
+revived-end : (c : tie.After-led-to5) → let s = c .before .before .before .before .before .before .before .before .before .before .before .before in
+    Ends (s .args .t) (reviving (s .args .t) (s .args .closed)) (bitAnd (c .led-to5 .result) (s .args .closed))
+revived-end c =
+    let s = c .before .before .before .before .before .before .before .before .before .before .before .before in
+    reviving-ends _ (s .pre .0) _ (s .pre .1 .1) _ _ (c .led-to5 .ensures)
 
 first-reason-requires-3 : tie.Need-first-reason-requires-3
-first-reason-requires-3 c κs = c .before .before .before .before .before .before .before .before .before .before .before .before .pre .0
+first-reason-requires-3 c κs = c .before .before .before .before .before .before .before .before .before .before .before .before .before .pre .0
 
 returns-5 : tie.Need-returns-5
 returns-5 c =
-    let h = c .before .before .before in
-    sym (past-four (h .before .before .before .before) ∙ reason-none 5 _ _ _ (none-reopening h) ∙ reason-at 6 _ _ _ _ (sym (reviving-made (c .before .before))) (c .if5 .taken))
+    let h = c .before .before in
+    let s = h .before .before .before .before .before .before .before .before .before .before .before .before in
+    let found = c .first-reason3 .ensures ∙ first-reviving _ _ in
+    sym (past-five (h .before) ∙ reason-at 6 _ _ _ _ (sym found, rw found (ends-some _ (s .pre .0) _ _ (revived-end h) (c .before .if5 .taken))))
 
 returns-6 : tie.Need-returns-6
-returns-6 c =
-    let h = c .before .before .before in
-    sym (past-four (h .before .before .before .before) ∙ reason-none 5 _ _ _ (none-reopening h)
-    ∙ reason-none 6 _ _ _ (relation-none _ _ _ (reviving-made (c .before .before)) (c .if5 .left)))
+returns-6 c = sym (past-five (c .before .before) ∙ reason-none 6 _ _ _ (ends-none (c .before .before .before .before .before .before .before .before .before .before .before .before .before .args .t) _ _ (revived-end (c .before)) (c .if5 .left)))
 
 pub verdict-of-spec : {M : Type 1} → statement M
 verdict-of-spec =
@@ -134,15 +146,17 @@ verdict-of-spec =
     without-requires
     lowest-requires
     returns
+    led-to-requires
     first-reason-requires
     returns-2
-    awaited-requires
-    selected-requires
-    lowest-requires-2
+    first-cyclic-requires
     returns-3
-    picked-requires
+    led-to-requires-2
+    led-to-requires-3
+    led-to-requires-4
     first-reason-requires-2
     returns-4
+    led-to-requires-5
     first-reason-requires-3
     returns-5
     returns-6)

@@ -2,16 +2,18 @@
 use mathlib.Core.Path.{sym, _∙_}
 use borrow.Author.Tests.{lt-ltb, le-ltb}
 use Rattle.rules.specs.Laws.Remedy.{mayCause}
-use Rattle.rules.specs.Laws.Told.{event-told}
-use Rattle.rules.specs.Laws.Trace.{exists-told}
+use Rattle.rules.specs.Laws.Judge.{good}
+use Rattle.rules.specs.Laws.Told.{event-fits}
 use Rattle.engine.proofs.remedy.may_cause.Statement.{statement}
 use Rattle.engine.proofs.remedy.may_cause.Tie as tie
 
 has-event-requires : tie.Need-has-event-requires
-has-event-requires c κs = event-told _ _ _ (exists-told _ _ _ (c .before .before .pre) (c .if1 .taken)) .1
+has-event-requires c κs = event-fits (good _ _ (c .before .before .pre)) (c .if1 .taken)
 
 is-enabled-requires : tie.Need-is-enabled-requires
-is-enabled-requires c κs = event-told _ _ _ (exists-told _ _ _ (c .before .before .before .before .pre) (c .before .before .if1 .taken))
+is-enabled-requires c κs =
+    let known = good _ _ (c .before .before .before .before .pre) in
+    (known, event-fits known (c .before .before .if1 .taken))
 
 returns : tie.Need-returns
 unfolding mayCause

@@ -1,53 +1,26 @@
--- By the verdict: the check rejects with 12, or the tick is caused. Assumes nothing.
-use mathlib.Core.Path.{ap, sym, _∙_}
-use Rattle.rules.specs.declared.GuardedAnswer.{GuardedAnswer}
-use Rattle.rules.specs.Guard.{guardedTick}
-use Rattle.rules.specs.Laws.Judge.{good}
-use Rattle.engine.specs.Laws.Taking.{check-judged, tick-refused}
+-- Either way the answer is the guarded tick's. Assumes nothing.
+use mathlib.Core.Path.{_∙_}
+use mathlib.Core.Logic.{⊎-elim}
 use borrow.Author.Needs.{needs}
+use Rattle.rules.specs.Laws.Judge.{good}
+use Rattle.engine.specs.Laws.Taking.{tick-accepted, tick-told}
 use Rattle.engine.proofs.trace.guard_ticked.Statement.{statement}
 use Rattle.engine.proofs.trace.guard_ticked.Tie as tie
 
-verdict-requires : tie.Need-verdict-requires
-verdict-requires c κs = good _ _ (c .pre)
+guarded-requires : tie.Need-guarded-requires
+guarded-requires c κs = let s = c .before .before in (good _ _ (s .pre .0), s .pre .1 .0)
 
-enum-known-checked : tie.Need-enum-known-checked
-enum-known-checked c = search needs
-
-enum-told : tie.Need-enum-told
-enum-told c = search needs
-
-accepted-requires : tie.Need-accepted-requires
-accepted-requires c κs = c .before .before .before .pre
-
-enum-told-2 : tie.Need-enum-told-2
-enum-told-2 c = search needs
+ticked-requires : tie.Need-ticked-requires
+ticked-requires c κs = search needs
 
 returns : tie.Need-returns
-unfolding guardedTick
 returns c =
-    let a = c .before .before .before .before .args in
-    let done = c .before .before .before .before .pre in
-    let same = check-judged (a .t) (a .m) done in
-    ap (λ (g : GuardedAnswer). record { number = g .number; marking = g .marking })
-    (tick-refused (a .t) (a .m) _ (same ∙ sym (c .before .before .before .verdict .ensures) ∙ c .before .checked .given .1))
-    ∙ rw same
-
-returns-2 : tie.Need-returns-2
-returns-2 c = c .accepted .ensures ∙ rw (sym (c .before .before .before .verdict .ensures) ∙ c .before .enum-told .given .1)
-
-returns-3 : tie.Need-returns-3
-returns-3 c = rw (sym (c .before .before .verdict .ensures) ∙ c .enum-told2 .given .1)
+    let s = c .before .before .before in
+    tick-told (s .args .t) (s .args .m) (s .pre .0) _
+    (⊎-elim
+    (λ w. w .2 ∙ w .1 .ensures ∙ tick-accepted (s .args .t) (s .args .m) (s .pre .0) (s .pre .1 .1 (w .0 .taken)))
+    (λ w. w .2 ∙ w .1 .ensures)
+    (c .before .if1 .came))
 
 pub guard-ticked-spec : {M : Type 1} → statement M
-guard-ticked-spec =
-    tie.close
-    (tie.spec
-    verdict-requires
-    enum-known-checked
-    enum-told
-    accepted-requires
-    enum-told-2
-    returns
-    returns-2
-    returns-3)
+guard-ticked-spec = tie.close (tie.spec guarded-requires ticked-requires returns)

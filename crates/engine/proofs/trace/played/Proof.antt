@@ -1,21 +1,27 @@
--- Step after step, as the laws of a trace go. Assumes nothing.
+-- Step after step, as the laws of a run go. Assumes nothing.
 use mathlib.Core.Path.{_≡_, refl}
 use Prim.Native.Nat.{_<_, _≤_, _-_, _/_}
 use native.Mathlib.Omega.{arith}
 use lib.ListN.{length}
+use borrow.Author.Needs.{needs}
 use Rattle.rules.specs.Trace.{stepsIn}
-use Rattle.rules.specs.Laws.Trace.{After, after-none, after-byte-step, after-all-bytes}
+use Rattle.rules.specs.Laws.Judge.{good}
+use Rattle.rules.specs.Laws.Trace.{after-all-bytes}
+use Rattle.engine.specs.Laws.Running.{Going, going-first, going-byte}
 use Rattle.engine.proofs.trace.played.Statement.{statement}
 use Rattle.engine.proofs.trace.played.Tie as tie
 
 abbrev Inv-loop : tie.InvT-loop
-Inv-loop t steps answers₀ n after₀ i₀ answers after i = (i ≤ n) × ((n ≡ length steps / 2) × After t after₀ (stepsIn steps) answers₀ i after answers)
+Inv-loop t steps answers₀ rows n state₀ i₀ answers state i = (i ≤ n) × ((n ≡ length steps / 2) × Going t (state₀ .marking) (stepsIn steps) answers₀ i state answers)
 
 abbrev μ-loop : tie.MeasureT-loop
-μ-loop t steps answers₀ n after₀ i₀ answers after i = n - i
+μ-loop t steps answers₀ rows n state₀ i₀ answers state i = n - i
+
+derived-requires : tie.Need-derived-requires Inv-loop μ-loop
+derived-requires c κs = good _ _ (c .before .before .pre .0) .table-good
 
 loop-holds : tie.Need-loop-holds Inv-loop μ-loop
-loop-holds c = (omega arith, (refl, after-none _ _ _ _))
+loop-holds c = (omega arith, (refl, going-first _ _ _ _ _ refl refl))
 
 mul-kind : tie.Need-mul-kind Inv-loop μ-loop
 mul-kind c = omega arith
@@ -32,11 +38,18 @@ add-event c = omega arith
 shared-slice-read-event : tie.Need-shared-slice-read-event Inv-loop μ-loop
 shared-slice-read-event c = omega arith
 
-turn-requires : tie.Need-turn-requires Inv-loop μ-loop
-turn-requires c κs = c .before .before .before .loop .inv .1 .1 .still-judged (c .before .before .before .before .before .before .pre .0)
+slice-aggregate-further : tie.Need-slice-aggregate-further Inv-loop μ-loop
+slice-aggregate-further c = search needs
+
+further-requires : tie.Need-further-requires Inv-loop μ-loop
+further-requires c κs =
+    let at = c .before .before .before .before in
+    (at .loop .inv .1 .1 .fit (at .before .before .before .before .pre .0), at .before .derived .ensures)
 
 slice-write-answers : tie.Need-slice-write-answers Inv-loop μ-loop
-slice-write-answers c = omega (arith, c .before .before .before .before .loop .inv .1 .1 .same-room, c .before .before .before .before .before .before .before .pre .1)
+slice-write-answers c =
+    let at = c .before .before .before .before .before in
+    omega (arith, at .loop .inv .1 .1 .after .same-room, at .before .before .before .before .pre .1)
 
 add-i : tie.Need-add-i Inv-loop μ-loop
 add-i c = omega arith
@@ -46,25 +59,26 @@ loop-less c = omega arith
 
 loop-again : tie.Need-loop-again Inv-loop μ-loop
 loop-again c =
-    let a = c .before .before .before .before .before .before .before .before .args in
-    let at = c .before .before .before .before .before .loop in
-    let more : at .i < length (a .steps .now) / 2 = omega arith in
-    let room : at .i < length (a .answers .now) = omega (arith, c .before .before .before .before .before .before .before .before .pre .1) in (
+    let at = c .before .before .before .before .before in
+    let s = at .before .before .before .before in
+    let a = s .args in
+    let more : at .loop .i < length (a .steps .now) / 2 = omega arith in
+    let room : at .loop .i < length (a .answers .now) = omega (arith, s .pre .1) in (
       omega arith,
       (
-        at .inv .1 .0,
-        after-byte-step (a .t) (a .m) (a .steps .now) (a .answers .now) (at .i) (at .after) (at .answers) (at .inv .1 .1) more room (c .before .turn .result) (c .before .turn .ensures),
+        at .loop .inv .1 .0,
+        going-byte (a .t) (a .m) (a .steps .now) (a .answers .now) (at .loop .i) (at .loop .state) (at .loop .answers) (at .loop .inv .1 .1) more room (c .further .ensures),
       ),
     )
 
 same-length : tie.Need-same-length Inv-loop μ-loop
-same-length c = c .before .loop .inv .1 .1 .same-room
+same-length c = c .before .before .loop .inv .1 .1 .after .same-room
 
 returns : tie.Need-returns Inv-loop μ-loop
 returns c =
-    let a = c .before .before .before .before .args in
-    let at = c .before .loop in
-    after-all-bytes (a .t) (a .m) (a .steps .now) (a .answers .now) (at .i) (at .after) (at .answers) (at .inv .1 .1) (omega arith)
+    let at = c .before .before in
+    let a = at .before .before .before .before .args in
+    after-all-bytes (a .t) (a .m) (a .steps .now) (a .answers .now) (at .loop .i) (at .loop .state .marking) (at .loop .answers) (at .loop .inv .1 .1 .after) (omega arith)
 
 pub played-spec : {M : Type 1} → statement M
 played-spec =
@@ -72,13 +86,15 @@ played-spec =
     (tie.spec
     Inv-loop
     μ-loop
+    derived-requires
     loop-holds
     mul-kind
     shared-slice-read-kind
     mul-event
     add-event
     shared-slice-read-event
-    turn-requires
+    slice-aggregate-further
+    further-requires
     slice-write-answers
     add-i
     loop-less

@@ -1,5 +1,5 @@
 -- The members of one word and the other turned over. Assumes nothing.
-use Rattle.engine.specs.Laws.Reasons.{has-without}
+use Rattle.engine.specs.Laws.Members.{has-without}
 use Rattle.engine.proofs.word.without.Statement.{statement}
 use Rattle.engine.proofs.word.without.Tie as tie
 

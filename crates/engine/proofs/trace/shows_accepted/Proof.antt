@@ -1,0 +1,17 @@
+-- Known before, or by the two tests, in the definition's order. Assumes nothing.
+use borrow.Author.Tests.{eq-eqb, ne-eqb}
+use borrow.Author.Needs.{needs}
+use Rattle.engine.proofs.trace.shows_accepted.Statement.{statement}
+use Rattle.engine.proofs.trace.shows_accepted.Tie as tie
+
+returns : tie.Need-returns
+returns c = search needs
+
+returns-2 : tie.Need-returns-2
+returns-2 c = rw (c .before .if1 .left, eq-eqb _ _ (c .if2 .taken))
+
+returns-3 : tie.Need-returns-3
+returns-3 c = rw (c .before .if1 .left, ne-eqb _ _ (c .if2 .left))
+
+pub shows-accepted-spec : {M : Type 1} → statement M
+shows-accepted-spec = tie.close (tie.spec returns returns-2 returns-3)
