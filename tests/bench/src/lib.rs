@@ -3,6 +3,7 @@
 
 #![forbid(unsafe_code)]
 
+pub mod boundary;
 pub mod calls;
 pub mod compare;
 pub mod edges;

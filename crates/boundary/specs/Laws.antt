@@ -1,0 +1,6 @@
+-- What the promises rest on.
+pub mod Images
+pub mod Kept
+pub mod Answered
+pub mod Guarded
+pub mod Offered

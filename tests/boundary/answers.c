@@ -1,0 +1,85 @@
+/*
+ * Answers the exported calls on standard input, for tests/bench to hold against the second implementation.
+ *
+ * A question: the call's number 1 byte, the number asked about 8, then four byte strings, each behind its length of 2 bytes: table, marking,
+ * a first and a second list. An answer: the number 1 byte, the small out-parameter 1, the large ones 8 and 8, then the marking and the second
+ * list as they are afterwards, as long as they came. Numbers are little-endian, and the out-parameters start as bytes 0xEE.
+ */
+#include "duty.h"
+#include <stdio.h>
+#include <string.h>
+
+enum { LONGEST = 65535 };
+
+struct list {
+    uint8_t bytes[LONGEST];
+    size_t length;
+};
+
+static struct list table, marking, first, second;
+
+static int take(void *bytes, size_t length) { return fread(bytes, 1, length, stdin) == length; }
+
+static void put(const void *bytes, size_t length) { fwrite(bytes, 1, length, stdout); }
+
+static int take_list(struct list *l)
+{
+    uint8_t length[2];
+    if (!take(length, 2))
+        return 0;
+    l->length = length[0] + 256u * length[1];
+    return take(l->bytes, l->length);
+}
+
+#define TABLE table.bytes, table.length
+#define MARKING marking.bytes, marking.length
+#define FIRST first.bytes, first.length
+#define SECOND second.bytes, second.length
+
+int main(void)
+{
+    uint8_t call;
+    while (take(&call, 1)) {
+        uint64_t asked;
+        if (!take(&asked, 8) || !take_list(&table) || !take_list(&marking) || !take_list(&first) || !take_list(&second))
+            return 1;
+        uint8_t number = 0, small = 0xEE;
+        uint64_t set;
+        size_t large, count;
+        int32_t ticks;
+        memset(&set, 0xEE, sizeof set);
+        memset(&large, 0xEE, sizeof large);
+        memset(&count, 0xEE, sizeof count);
+        memset(&ticks, 0xEE, sizeof ticks);
+        switch (call) {
+        case 0: number = duty_judge(TABLE, MARKING); break;
+        case 1: number = duty_fresh(asked, MARKING); break;
+        case 2: number = (uint8_t)duty_size(asked); break;
+        case 3: number = (uint8_t)duty_lowest(asked); break;
+        case 4: number = duty_enabled(TABLE, MARKING, asked, &small); break;
+        case 5: number = duty_due(TABLE, MARKING, &set); break;
+        case 6: number = duty_request(TABLE, MARKING, asked); break;
+        case 7: number = duty_report(TABLE, MARKING, asked); break;
+        case 8: number = duty_plain_tick(TABLE, MARKING); break;
+        case 9: number = duty_margin(TABLE, MARKING, asked, &small, &ticks); break;
+        case 10: number = duty_hold_up(TABLE, MARKING, asked, &small, &large); break;
+        case 11: number = duty_closure(TABLE, MARKING, &set); break;
+        case 12: number = duty_check(TABLE, MARKING, &small, &large); break;
+        case 13: number = duty_guarded_tick(TABLE, MARKING, SECOND, &count, &small, &large); break;
+        case 14: number = duty_remedies(TABLE, MARKING, FIRST, SECOND, &small, &large); break;
+        case 15: number = duty_run(TABLE, MARKING, FIRST, SECOND); break;
+        default: return 1;
+        }
+        if (call == 5 || call == 11)
+            large = set;
+        if (call == 9)
+            memcpy(&large, &ticks, sizeof ticks);
+        put(&number, 1);
+        put(&small, 1);
+        put(&large, 8);
+        put(&count, 8);
+        put(MARKING);
+        put(SECOND);
+    }
+    return ferror(stdin) || fflush(stdout) != 0;
+}

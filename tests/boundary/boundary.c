@@ -1,0 +1,426 @@
+/*
+ * What can be seen from C: the answers of the shop case and at the limits, the order of refusals, and that nothing is read or written past a
+ * buffer, nor written in a refusal. Every buffer ends where its page ends and the page behind cannot be touched; in a refusal its own page
+ * cannot be written either. A call that oversteps ends the program.
+ */
+#define _DEFAULT_SOURCE
+#include "duty.h"
+#include "shop.h"
+#include <stdio.h>
+#include <stdlib.h>
+#include <string.h>
+#include <sys/mman.h>
+
+static int passed, failed;
+
+#define CHECK(fact) check((fact), #fact, __LINE__)
+static void check(int holds, const char *fact, int line)
+{
+    if (holds) {
+        passed++;
+    } else {
+        failed++;
+        printf("line %d: %s\n", line, fact);
+    }
+}
+
+/* Lent memory */
+
+enum { PAGE = 4096, PAGES = 4, MOST = PAGE * PAGES };
+
+/* so many bytes, with the page behind them closed */
+struct lent {
+    uint8_t *base, *bytes;
+    size_t length;
+};
+
+static struct lent lend(const void *bytes, size_t length)
+{
+    struct lent l;
+    l.base = mmap(NULL, MOST + PAGE, PROT_READ | PROT_WRITE, MAP_PRIVATE | MAP_ANONYMOUS, -1, 0);
+    if (l.base == MAP_FAILED || length > MOST || mprotect(l.base + MOST, PAGE, PROT_NONE) != 0) {
+        puts("no memory to lend");
+        exit(1);
+    }
+    l.bytes = l.base + MOST - length;
+    l.length = length;
+    memset(l.base, 0xA5, MOST);
+    if (bytes != NULL)
+        memcpy(l.bytes, bytes, length);
+    return l;
+}
+
+static void protect(struct lent l, int how)
+{
+    if (mprotect(l.base, MOST, how) != 0) {
+        puts("a page cannot be shut");
+        exit(1);
+    }
+}
+
+static void shut(struct lent l) { protect(l, PROT_READ); }
+
+static void open_up(struct lent l) { protect(l, PROT_READ | PROT_WRITE); }
+
+static void give_back(struct lent l) { munmap(l.base, MOST + PAGE); }
+
+/* what is before the bytes is as it was made */
+static int kept_before(struct lent l)
+{
+    for (uint8_t *p = l.base; p < l.bytes; p++)
+        if (*p != 0xA5)
+            return 0;
+    return 1;
+}
+
+/* The out-parameters, each at the end of a page of its own. */
+static struct lent small, word, place, count;
+#define SMALL (small.bytes)
+#define SET ((uint64_t *)(void *)word.bytes)
+#define TICKS ((int32_t *)(void *)(word.bytes + 4))
+#define PLACE ((size_t *)(void *)place.bytes)
+#define COUNT ((size_t *)(void *)count.bytes)
+
+static void shut_answers(void)
+{
+    shut(small);
+    shut(word);
+    shut(place);
+    shut(count);
+}
+
+static void open_answers(void)
+{
+    open_up(small);
+    open_up(word);
+    open_up(place);
+    open_up(count);
+}
+
+/* A table and a marking, and every call on them */
+
+struct images {
+    struct lent table, marking, caused, answers;
+};
+
+#define T(i) (i).table.bytes, (i).table.length
+#define M(i) (i).marking.bytes, (i).marking.length
+
+static struct images take(const void *table, size_t table_length, const void *marking, size_t marking_length)
+{
+    struct images i;
+    i.table = lend(table, table_length);
+    i.marking = lend(marking, marking_length);
+    i.caused = lend(NULL, DUTY_MOST_EVENTS);
+    i.answers = lend(NULL, 8);
+    shut(i.table);
+    return i;
+}
+
+static void leave(struct images i)
+{
+    give_back(i.table);
+    give_back(i.marking);
+    give_back(i.caused);
+    give_back(i.answers);
+}
+
+static uint8_t guarded(struct images i)
+{
+    return duty_guarded_tick(T(i), M(i), i.caused.bytes, i.caused.length, COUNT, SMALL, PLACE);
+}
+
+static uint8_t run(struct images i, const void *steps, size_t length)
+{
+    struct lent l = lend(steps, length);
+    shut(l);
+    uint8_t number = duty_run(T(i), M(i), l.bytes, l.length, i.answers.bytes, i.answers.length);
+    give_back(l);
+    return number;
+}
+
+/* Images that cannot be read: every call gives their number, and writes nothing. */
+static void all_refused(const void *table, size_t table_length, const void *marking, size_t marking_length, uint8_t number)
+{
+    static const uint8_t list[] = {ISOLATE}, steps[] = {2, 0};
+    struct images i = take(table, table_length, marking, marking_length);
+    shut(i.marking);
+    shut(i.caused);
+    shut(i.answers);
+    shut_answers();
+    CHECK(duty_judge(T(i), M(i)) == number);
+    CHECK(duty_enabled(T(i), M(i), 0, SMALL) == number);
+    CHECK(duty_due(T(i), M(i), SET) == number);
+    CHECK(duty_request(T(i), M(i), FLUSH) == number);
+    CHECK(duty_report(T(i), M(i), LEAK) == number);
+    CHECK(duty_plain_tick(T(i), M(i)) == number);
+    CHECK(duty_margin(T(i), M(i), 0, SMALL, TICKS) == number);
+    CHECK(duty_hold_up(T(i), M(i), 0, SMALL, PLACE) == number);
+    CHECK(duty_closure(T(i), M(i), SET) == number);
+    CHECK(duty_check(T(i), M(i), SMALL, PLACE) == number);
+    CHECK(guarded(i) == number);
+    CHECK(duty_remedies(T(i), M(i), list, sizeof list, list, sizeof list, SMALL, PLACE) == number);
+    CHECK(run(i, steps, sizeof steps) == number);
+    open_answers();
+    leave(i);
+}
+
+/* The shop's start: fresh, flush excluded. */
+static struct images shop(void)
+{
+    struct images i = take(shop_table, sizeof shop_table, NULL, DUTY_RECORD_BYTES * EVENTS);
+    CHECK(duty_fresh(EVENTS, i.marking.bytes, i.marking.length) == DUTY_DONE);
+    i.marking.bytes[DUTY_RECORD_BYTES * FLUSH + INCLUDED_BYTE] = 0;
+    return i;
+}
+
+/* leak, and three guarded ticks */
+static struct images shop_due(void)
+{
+    struct images i = shop();
+    CHECK(duty_report(T(i), M(i), LEAK) == DUTY_DONE);
+    for (int minute = 0; minute < 3; minute++)
+        CHECK(guarded(i) == DUTY_DONE && *COUNT == 0);
+    return i;
+}
+
+static void plays_the_shop(void)
+{
+    struct images i = shop();
+    shut(i.marking);
+    CHECK(duty_judge(T(i), M(i)) == DUTY_DONE);
+    CHECK(duty_check(T(i), M(i), SMALL, PLACE) == DUTY_DONE && *SMALL == 0 && *PLACE == 0);
+    CHECK(duty_closure(T(i), M(i), SET) == DUTY_DONE && *SET == 0x16);
+    CHECK(duty_size(*SET) == 3 && duty_lowest(*SET) == FLUSH);
+    CHECK(duty_due(T(i), M(i), SET) == DUTY_DONE && *SET == 0);
+    CHECK(duty_hold_up(T(i), M(i), FLUSH, SMALL, PLACE) == DUTY_DONE && *SMALL == DUTY_EXCLUDED && *PLACE == 0);
+    open_up(i.marking);
+    CHECK(duty_report(T(i), M(i), LEAK) == DUTY_DONE);
+    CHECK(duty_enabled(T(i), M(i), ISOLATE, SMALL) == DUTY_DONE && *SMALL == 1);
+    CHECK(duty_enabled(T(i), M(i), FLUSH, SMALL) == DUTY_DONE && *SMALL == 0);
+    CHECK(duty_hold_up(T(i), M(i), FLUSH, SMALL, PLACE) == DUTY_DONE && *SMALL == DUTY_BLOCKED && *PLACE == 1);
+    CHECK(duty_margin(T(i), M(i), 1, SMALL, TICKS) == DUTY_DONE && *SMALL == DUTY_NEVER && *TICKS == 0);
+    CHECK(duty_margin(T(i), M(i), 0, SMALL, TICKS) == DUTY_DONE && *SMALL == DUTY_NOT_A_CONDITION && *TICKS == 0);
+    leave(i);
+
+    i = shop_due();
+    CHECK(duty_due(T(i), M(i), SET) == DUTY_DONE && *SET == 1u << FLUSH);
+    CHECK(guarded(i) == DUTY_DONE && *COUNT == 3 && memcmp(i.caused.bytes, "\2\4\1\xA5", 4) == 0 && *SMALL == 0 && *PLACE == 0);
+    CHECK(kept_before(i.marking) && kept_before(i.caused) && i.caused.bytes[DUTY_MOST_EVENTS - 1] == 0xA5);
+    CHECK(duty_margin(T(i), M(i), 1, SMALL, TICKS) == DUTY_DONE && *SMALL == DUTY_BY && *TICKS == 1);
+    leave(i);
+}
+
+static void offers_remedies(void)
+{
+    static const uint8_t preferred[] = {FLUSH, ISOLATE, DRAIN}, fallback[] = {DRAIN, ISOLATE, FLUSH, ISOLATE}, long_list[256] = {0};
+    struct images i = shop_due();
+    shut(i.marking);
+    CHECK(duty_remedies(T(i), M(i), preferred, 3, fallback, 4, SMALL, PLACE) == DUTY_DONE && *SMALL == DUTY_FALLBACK && *PLACE == 3);
+    CHECK(duty_remedies(T(i), M(i), fallback, 4, preferred, 3, SMALL, PLACE) == DUTY_DONE && *SMALL == DUTY_PREFERRED && *PLACE == 3);
+    /* one list for both, and a part of a list as the other */
+    CHECK(duty_remedies(T(i), M(i), fallback, 4, fallback, 4, SMALL, PLACE) == DUTY_DONE && *SMALL == DUTY_PREFERRED && *PLACE == 3);
+    CHECK(duty_remedies(T(i), M(i), fallback + 1, 3, fallback, 4, SMALL, PLACE) == DUTY_DONE && *SMALL == DUTY_FALLBACK && *PLACE == 3);
+    shut_answers();
+    CHECK(duty_remedies(T(i), M(i), fallback, 1, fallback, 1, SMALL, PLACE) == DUTY_NO_REMEDY);
+    CHECK(duty_remedies(T(i), M(i), fallback, 0, fallback, 0, SMALL, PLACE) == DUTY_NO_REMEDY);
+    CHECK(duty_remedies(T(i), M(i), long_list, 256, fallback, 4, SMALL, PLACE) == DUTY_ROOM);
+    CHECK(duty_remedies(T(i), M(i), fallback, 4, long_list, 256, SMALL, PLACE) == DUTY_ROOM);
+    CHECK(duty_remedies(T(i), M(i), long_list, 255, long_list, 255, SMALL, PLACE) == DUTY_NO_REMEDY);
+    open_answers();
+    leave(i);
+
+    i = shop();
+    CHECK(duty_remedies(T(i), M(i), preferred, 0, fallback, 0, SMALL, PLACE) == DUTY_DONE && *SMALL == DUTY_PREFERRED && *PLACE == 0);
+    leave(i);
+}
+
+/* A refusal of the call's own, with everything shut. */
+static void refuses(void)
+{
+    struct images i = shop_due();
+    shut(i.marking);
+    shut(i.caused);
+    shut_answers();
+    CHECK(duty_request(T(i), M(i), FLUSH) == DUTY_NOT_ENABLED);
+    CHECK(duty_request(T(i), M(i), LEAK) == DUTY_CLASS);
+    CHECK(duty_report(T(i), M(i), FLUSH) == DUTY_CLASS);
+    CHECK(duty_request(T(i), M(i), EVENTS) == DUTY_NONE_SUCH);
+    CHECK(duty_report(T(i), M(i), SIZE_MAX) == DUTY_NONE_SUCH);
+    CHECK(duty_enabled(T(i), M(i), SIZE_MAX, SMALL) == DUTY_NONE_SUCH);
+    CHECK(duty_hold_up(T(i), M(i), EVENTS, SMALL, PLACE) == DUTY_NONE_SUCH);
+    CHECK(duty_margin(T(i), M(i), 6, SMALL, TICKS) == DUTY_NONE_SUCH);
+    CHECK(duty_plain_tick(T(i), M(i)) == DUTY_IS_DUE);
+    /* a byte for each event, and no less */
+    i.caused.length = EVENTS - 1;
+    CHECK(guarded(i) == DUTY_ROOM);
+    i.caused.length = 0;
+    CHECK(guarded(i) == DUTY_ROOM);
+    open_answers();
+    open_up(i.marking);
+    open_up(i.caused);
+    i.caused.bytes += DUTY_MOST_EVENTS - EVENTS;
+    i.caused.length = EVENTS;
+    CHECK(guarded(i) == DUTY_DONE && *COUNT == 3 && memcmp(i.caused.bytes, "\2\4\1\xA5\xA5", EVENTS) == 0 && kept_before(i.caused));
+    leave(i);
+}
+
+/* 12 writes reason and place, and nothing else; 14 comes before it. */
+static void rejects(void)
+{
+    uint8_t table[sizeof shop_table], marking[DUTY_RECORD_BYTES * EVENTS] = {0};
+    static const uint8_t step[] = {3, 0};
+    memcpy(table, shop_table, sizeof table);
+    table[4 + ISOLATE] = 0x80; /* not causable */
+    CHECK(duty_fresh(EVENTS, marking, sizeof marking) == DUTY_DONE);
+    struct images i = take(table, sizeof table, marking, sizeof marking);
+    shut(i.marking);
+    shut(i.caused);
+    shut(count);
+    CHECK(duty_check(T(i), M(i), SMALL, PLACE) == DUTY_REJECTED && *SMALL == 2 && *PLACE == ISOLATE);
+    *SMALL = 9;
+    *PLACE = 9;
+    CHECK(guarded(i) == DUTY_REJECTED && *SMALL == 2 && *PLACE == ISOLATE);
+    i.caused.length = EVENTS - 1;
+    shut_answers();
+    CHECK(guarded(i) == DUTY_ROOM);
+    open_answers();
+    open_up(i.marking);
+    CHECK(run(i, step, sizeof step) == DUTY_DONE && i.answers.bytes[0] == DUTY_REJECTED && i.answers.bytes[1] == 0xA5);
+    CHECK(memcmp(i.marking.bytes, marking, sizeof marking) == 0);
+    leave(i);
+}
+
+static void runs(void)
+{
+    static const uint8_t steps[] = {1, LEAK, 0, FLUSH, 3, 0, 3, 0, 3, 0, 2, 0, 3, 0, 4, 0}, answers[] = {0, 10, 0, 0, 0, 11, 0, 15};
+    static uint8_t many[2 * 4097];
+    struct images i = shop(), other = shop_due();
+    CHECK(guarded(other) == DUTY_DONE);
+    CHECK(run(i, steps, sizeof steps) == DUTY_DONE);
+    CHECK(memcmp(i.answers.bytes, answers, sizeof answers) == 0 && kept_before(i.answers));
+    CHECK(memcmp(i.marking.bytes, other.marking.bytes, i.marking.length) == 0);
+    CHECK(run(i, steps, 0) == DUTY_DONE && memcmp(i.marking.bytes, other.marking.bytes, i.marking.length) == 0);
+    shut(i.marking);
+    shut(i.answers);
+    CHECK(run(i, steps, 15) == DUTY_LENGTH);
+    i.answers.length = 7;
+    CHECK(run(i, steps, sizeof steps) == DUTY_ROOM);
+    CHECK(run(i, many, sizeof many - 1) == DUTY_LENGTH);
+    CHECK(run(i, many, sizeof many) == DUTY_ROOM);
+    leave(i);
+    leave(other);
+}
+
+/* Document 01's two events: an uncontrollable one that is due is caused, and its response comes back to it. */
+static void answers_the_hex_case(void)
+{
+    static const uint8_t table[] = {0x04, 0x01, 0, 0, 0x40, 0x80, 0x40, 0x01, 0, 0, 0, 0x04};
+    static const uint8_t marking[16] = {0, 0, 0, 1, 0xC0, 0, 0, 0};
+    static const uint8_t after[16] = {0x80, 0, 0, 3, 0xC0, 0, 0, 0};
+    struct images i = take(table, sizeof table, marking, sizeof marking);
+    CHECK(guarded(i) == DUTY_DONE && *COUNT == 1 && i.caused.bytes[0] == 0);
+    CHECK(memcmp(i.marking.bytes, after, sizeof after) == 0);
+    leave(i);
+}
+
+static void makes_fresh(void)
+{
+    struct lent l = lend(NULL, DUTY_RECORD_BYTES * DUTY_MOST_EVENTS);
+    shut(l);
+    CHECK(duty_fresh(0, l.bytes, l.length) == DUTY_COUNTS);
+    CHECK(duty_fresh(65, l.bytes, l.length) == DUTY_COUNTS);
+    CHECK(duty_fresh(SIZE_MAX, l.bytes, l.length) == DUTY_COUNTS);
+    CHECK(duty_fresh(0, l.bytes, 0) == DUTY_COUNTS);
+    CHECK(duty_fresh(1, l.bytes, 0) == DUTY_ROOM);
+    CHECK(duty_fresh(EVENTS, l.bytes, DUTY_RECORD_BYTES * EVENTS - 1) == DUTY_ROOM);
+    open_up(l);
+    CHECK(duty_fresh(1, l.bytes, l.length) == DUTY_DONE);
+    CHECK(memcmp(l.bytes, "\0\0\0\1\0\0\0\0\xA5", 9) == 0 && kept_before(l));
+    CHECK(duty_fresh(64, l.bytes, l.length) == DUTY_DONE && l.bytes[8 * 63 + INCLUDED_BYTE] == 1);
+    give_back(l);
+}
+
+/* What is read and what is not, and the first number where several apply. */
+static void keeps_the_limits(void)
+{
+    static uint8_t table[4 + 65 + 6 * 257], marking[DUTY_RECORD_BYTES * 65];
+    uint8_t bad_table[sizeof shop_table], bad_marking[DUTY_RECORD_BYTES * EVENTS] = {0};
+    size_t k;
+
+    /* 64 events, 256 relations: conditions of event 63 on 63, time 1,000,000,000 */
+    table[0] = 64 << 1 | 1;
+    for (k = 0; k < 256; k++)
+        memcpy(table + 68 + 6 * k, "\x3F\xFF\xEE\x6B\x28\x00", 6);
+    for (k = 0; k < 64; k++)
+        marking[8 * k + INCLUDED_BYTE] = 1;
+    struct images i = take(table, 4 + 64 + 6 * 256, marking, 8 * 64);
+    CHECK(duty_judge(T(i), M(i)) == DUTY_DONE);
+    CHECK(duty_margin(T(i), M(i), 255, SMALL, TICKS) == DUTY_DONE && *SMALL == DUTY_NEVER);
+    CHECK(duty_request(T(i), M(i), 0) == DUTY_CLASS && duty_report(T(i), M(i), 0) == DUTY_DONE && duty_report(T(i), M(i), 63) == DUTY_NOT_ENABLED);
+    CHECK(duty_plain_tick(T(i), M(i)) == DUTY_DONE && kept_before(i.marking));
+    leave(i);
+
+    table[68 + 6 * 255 + 5] = 0x04; /* time 1,000,000,001 */
+    all_refused(table, 4 + 64 + 6 * 256, marking, 8 * 64, DUTY_TIME);
+    table[1] = 1; /* 257 relations */
+    all_refused(table, 4 + 64 + 6 * 257, marking, 8 * 64, DUTY_COUNTS);
+    table[0] = 65 << 1;
+    table[1] = 0;
+    all_refused(table, 4 + 65, marking, 8 * 65, DUTY_COUNTS);
+    table[0] = 0;
+    all_refused(table, 4, marking, 0, DUTY_COUNTS);
+
+    CHECK(duty_fresh(EVENTS, bad_marking, sizeof bad_marking) == DUTY_DONE);
+    all_refused(shop_table, 0, bad_marking, sizeof bad_marking, DUTY_LENGTH);
+    all_refused(shop_table, 3, bad_marking, sizeof bad_marking, DUTY_LENGTH);
+    all_refused(shop_table, sizeof shop_table - 1, bad_marking, sizeof bad_marking, DUTY_LENGTH);
+    all_refused(shop_table, sizeof shop_table, bad_marking, 0, DUTY_LENGTH);
+    all_refused(shop_table, sizeof shop_table, bad_marking, sizeof bad_marking - 1, DUTY_LENGTH);
+    bad_marking[7] = 1; /* a deadline without a bound */
+    all_refused(shop_table, sizeof shop_table, bad_marking, sizeof bad_marking, DUTY_RECORD);
+    memcpy(bad_table, shop_table, sizeof bad_table);
+    bad_table[9] = 0xE0; /* kind 7 */
+    all_refused(bad_table, sizeof bad_table, bad_marking, sizeof bad_marking, DUTY_KIND);
+    bad_table[3] = 1; /* a spare bit of the header */
+    all_refused(bad_table, sizeof bad_table, bad_marking, 0, DUTY_SPARE);
+}
+
+/* What is only read may overlap: the marking lies within the table's own memory. */
+static void reads_overlapping(void)
+{
+    uint8_t both[4 + 1 + 8] = {0x02, 0, 0, 0, 0};
+    struct lent l = lend(both, sizeof both);
+    shut(l);
+    CHECK(duty_judge(l.bytes, 5, l.bytes + 5, 8) == DUTY_DONE);
+    CHECK(duty_judge(l.bytes, 5, l.bytes + 1, 8) == DUTY_DONE);
+    CHECK(duty_judge(l.bytes, 5, l.bytes, 8) == DUTY_RECORD);
+    give_back(l);
+}
+
+static void counts_sets(void)
+{
+    CHECK(duty_size(0) == 0 && duty_lowest(0) == 64);
+    CHECK(duty_size(UINT64_MAX) == 64 && duty_lowest(UINT64_MAX) == 0);
+    CHECK(duty_size(1ull << 63) == 1 && duty_lowest(1ull << 63) == 63);
+}
+
+int main(void)
+{
+    small = lend(NULL, 1);
+    word = lend(NULL, 8);
+    place = lend(NULL, sizeof(size_t));
+    count = lend(NULL, sizeof(size_t));
+    plays_the_shop();
+    offers_remedies();
+    refuses();
+    rejects();
+    runs();
+    answers_the_hex_case();
+    makes_fresh();
+    keeps_the_limits();
+    reads_overlapping();
+    counts_sets();
+    printf("%d passed, %d failed\n", passed, failed);
+    return failed != 0;
+}
