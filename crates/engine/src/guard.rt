@@ -30,15 +30,18 @@ pub fn nothing(number: u8, reason: u8, place: usize, m: Marking) -> GuardedAnswe
     }
 }
 
-// The due events and, repeatedly, the inhibitors that hold them back.
+// The due events and, repeatedly, the inhibitors that hold them back; with nothing due there is nothing to look for.
 fn needed(t: Table, m: Marking, rows: &[u64]) -> u64
     requires { ⌜ Good t m ⌝ }
     requires { ⌜ Derived t (t .count) (now rows) ⌝ }
     ensures { λ r. ⌜ r ≡ needed t m ⌝ }
 {
+    let due = time::due_set(m);
+    if due == 0 {
+        return 0;
+    }
     let missing = collect::marked(m, collect::Mark::Missing);
     let pending = collect::marked(m, collect::Mark::Pending);
-    let due = time::due_set(m);
     inhibition::reached(rows, missing, pending, due)
 }
 

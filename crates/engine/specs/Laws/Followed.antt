@@ -23,7 +23,7 @@ use Rattle.rules.specs.Check.{awaited}
 use Rattle.rules.specs.Guard.{holdsBack, needed, ready}
 use Rattle.rules.specs.Laws.Tests.{decide, clash, both, join, same-test, and-false}
 use Rattle.rules.specs.Laws.Counting.{some-where, some-at, some-same}
-use Rattle.rules.specs.Laws.EventSet.{set-has, set-lt-power}
+use Rattle.rules.specs.Laws.EventSet.{has-zero, set-has, set-lt-power}
 use Rattle.rules.specs.Laws.Time.{set-empty}
 use Rattle.rules.specs.Laws.Words.{has-or, has-and}
 use Rattle.rules.specs.Laws.Turns.{same-word}
@@ -234,3 +234,12 @@ module _ (t : Table) (good : GoodTable t) (rows : List ℕ) (made : Derived t (t
 pub needed-reached : (t : Table) (m : Marking) → Good t m → (rows : List ℕ) → Derived t (t .count) rows → (r : ℕ)
     → Reached rows (marked m Missing) (marked m Pending) (dueSet m) r → r ≡ needed t m
 needed-reached t m good rows made = needed-along t (good .table-good) rows made m (good .marking-good .same-events)
+
+-- with nothing due, nothing
+pub needed-none : (t : Table) (m : Marking) → Good t m → (rows : List ℕ) → Derived t (t .count) rows → dueSet m ≡ 0 → 0 ≡ needed t m
+needed-none t m good rows made none =
+    needed-reached t m good rows made 0 (record {
+      starts = λ x h. ap (λ (w : ℕ). has w x) (sym none) ∙ h;
+      on = λ e x b h i. absurd (clash h (has-zero e));
+      within = λ p start on x h. absurd (clash h (has-zero x));
+    })
