@@ -1,6 +1,6 @@
 //! Pairs of 64 events and 256 relations that the check accepts, every event in
 //! the closure: the most that one guarded tick can have before it. They are
-//! cases at the limits, and what is measured.
+//! cases at the limits.
 
 use second::case::Pair;
 use second::{Marking, Record, Relation, Table};

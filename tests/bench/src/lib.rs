@@ -11,6 +11,5 @@ pub mod full;
 pub mod inputs;
 pub mod program;
 pub mod shape;
-pub mod stack;
 pub mod station;
 pub mod wire;

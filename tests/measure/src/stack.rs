@@ -97,6 +97,13 @@ impl Program {
             .filter(move |name| name.starts_with(start))
     }
 
+    /// Leaves calls of the second function out of the first.
+    pub fn leave_out(&mut self, name: &str, called: &str) {
+        if let Some(function) = self.functions.get_mut(name) {
+            function.calls.retain(|name| name != called);
+        }
+    }
+
     /// The most that a call of this function takes, and the calls that take it.
     /// `above` are the calls that have led to it: none may come again.
     pub fn deepest(&self, name: &str, above: &[&str]) -> Result<(usize, Vec<String>), String> {
@@ -147,6 +154,15 @@ mod tests {
         let (bytes, way) = program.deepest("duty_one", &[]).expect("no recursion");
         assert_eq!(bytes, 8 + 8 + 0x20 + 8 + 0x100);
         assert_eq!(way, ["duty_one", "engine::judge::judge"]);
+    }
+
+    #[test]
+    fn what_is_left_out_does_not_count() {
+        let mut program = Program::read(TEXT).expect("plain code");
+        program.leave_out("duty_one", "engine::judge::judge");
+        let (bytes, way) = program.deepest("duty_one", &[]).expect("no recursion");
+        assert_eq!(bytes, 8 + 8 + 0x20 + 8);
+        assert_eq!(way, ["duty_one", "small"]);
     }
 
     #[test]

@@ -1,0 +1,26 @@
+-- `timing::sets::timing_lowest` is safe and ends: a turn for each time. Assumes nothing.
+use Prim.Native.Nat.{_≤_, _-_}
+use native.Mathlib.Omega.{arith}
+use Rattle.timing.proofs.sets.timing_lowest.Statement.{statement}
+use Rattle.timing.proofs.sets.timing_lowest.Tie as tie
+
+abbrev Inv-loop : tie.InvT-loop
+Inv-loop times sum₀ i₀ sum i = i ≤ times
+
+abbrev μ-loop : tie.MeasureT-loop
+μ-loop times sum₀ i₀ sum i = times - i
+
+pub timing-lowest-spec : {M : Type 1} → statement M
+timing-lowest-spec =
+    tie.close
+    (tie.spec
+    Inv-loop
+    μ-loop
+    (λ c. omega arith)
+    (λ c. omega arith)
+    (λ c κs. tt)
+    (λ c. omega arith)
+    (λ c κs. tt)
+    (λ c. omega arith)
+    (λ c. omega arith)
+    (λ c. tt))

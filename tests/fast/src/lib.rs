@@ -1,0 +1,30 @@
+//! The duty engine of document 01, written for speed: decoded values are
+//! borrowed and changed in place, event sets are words, one pass turns the
+//! relations into rows of words, nothing is allocated. It is what the proved
+//! engine's costs are held against.
+
+#![forbid(unsafe_code)]
+
+mod ask;
+mod check;
+mod decoded;
+mod effect;
+mod enabled;
+mod guarded;
+mod image;
+mod judge;
+mod remedies;
+mod survey;
+mod time;
+mod trace;
+
+pub use ask::{report, request};
+pub use check::{check, closure, Verdict};
+pub use decoded::{Marking, Record, Relation, Table};
+pub use enabled::{enabled, hold_up, margin, HoldUp, Margin};
+pub use guarded::{guarded_tick, Guarded};
+pub use image::{fresh, read_marking, read_table, write_marking};
+pub use judge::{judge_marking, judge_table};
+pub use remedies::{remedies, Remedy};
+pub use time::{due, plain_tick};
+pub use trace::run_bytes;

@@ -1,0 +1,134 @@
+//! The cases, each of any size. What a case lends and reads is made once.
+
+use crate::calls::Calls;
+use crate::sized::{self, Size};
+use second::generate::{marking_image, table_image};
+
+pub const SIZES: [Size; 9] = [
+    Size::of(4, 8),
+    Size::of(4, 64),
+    Size::of(4, 256),
+    Size::of(16, 8),
+    Size::of(16, 64),
+    Size::of(16, 256),
+    Size::of(64, 8),
+    Size::of(64, 64),
+    Size::of(64, 256),
+];
+
+const STEPS: usize = 4096;
+
+/// What the cases of one size are made of.
+pub struct Input {
+    pub size: Size,
+    table: Vec<u8>,
+    rejected: Vec<u8>,
+    quiet: Vec<u8>,
+    one_due: Vec<u8>,
+    chain: Vec<u8>,
+    two_due: Vec<u8>,
+    steps: Vec<u8>,
+    buffer: Vec<u8>,
+}
+
+impl Input {
+    pub fn of(size: Size) -> Input {
+        Input {
+            size,
+            table: table_image(&sized::table(size)),
+            rejected: table_image(&sized::rejected_table(size)),
+            quiet: marking_image(&sized::quiet(size)),
+            one_due: marking_image(&sized::one_due(size)),
+            chain: marking_image(&sized::chain(size)),
+            two_due: marking_image(&sized::two_due(size)),
+            steps: sized::steps(size, STEPS),
+            buffer: vec![0; STEPS],
+        }
+    }
+}
+
+pub struct Case {
+    pub name: &'static str,
+    /// How many calls are counted: many of a short one, so that a difference by one evens out.
+    pub times: usize,
+    /// Makes so many calls on one side.
+    pub run: fn(&mut Input, &dyn Calls, usize) -> u64,
+}
+
+pub const CASES: [Case; 21] = [
+    case("read_table", |i, side, n| side.read_table(&mut i.table, n)),
+    case("read_marking", |i, side, n| {
+        side.read_marking(i.size.events, &mut i.quiet, n)
+    }),
+    case("write_marking", |i, side, n| {
+        side.write_marking(i.size.events, &i.quiet, &mut i.buffer, n)
+    }),
+    case("fresh", |_, side, n| side.fresh(n)),
+    case("judge_table", |i, side, n| side.judge_table(&i.table, n)),
+    case("judge_marking", |i, side, n| {
+        side.judge_marking(i.size.events, &i.quiet, n)
+    }),
+    case("enabled", |i, side, n| side.enabled(&i.table, &i.quiet, n)),
+    case("hold_up", |i, side, n| side.hold_up(&i.table, &i.quiet, n)),
+    case("margin", |i, side, n| side.margin(&i.table, &i.quiet, n)),
+    case("due", |i, side, n| side.due(&i.table, &i.quiet, n)),
+    case("request", |i, side, n| side.request(&i.table, &i.quiet, n)),
+    case("report", |i, side, n| {
+        side.report(&i.table, &i.quiet, i.size.events - 1, n)
+    }),
+    case("plain_tick", |i, side, n| {
+        side.plain_tick(&i.table, &i.quiet, n)
+    }),
+    case("closure", |i, side, n| side.closure(&i.table, &i.quiet, n)),
+    case("check, accepts", |i, side, n| {
+        side.check(&i.table, &i.quiet, n)
+    }),
+    case("check, rejects", |i, side, n| {
+        side.check(&i.rejected, &i.quiet, n)
+    }),
+    case("guarded_tick, quiet", |i, side, n| {
+        side.guarded_tick(&i.table, &i.quiet, n)
+    }),
+    case("guarded_tick, one due", |i, side, n| {
+        side.guarded_tick(&i.table, &i.one_due, n)
+    }),
+    case("guarded_tick, chain", |i, side, n| {
+        side.guarded_tick_again(&i.table, &i.chain, n)
+    }),
+    case("remedies", |i, side, n| {
+        side.remedies(&i.table, &i.two_due, &sized::PREFERRED, &sized::FALLBACK, n)
+    }),
+    Case {
+        name: "run_bytes, 4096 steps",
+        times: 1,
+        run: |i, side, n| side.run_bytes(&i.table, &i.quiet, &i.steps, &mut i.buffer, n),
+    },
+];
+
+const fn case(name: &'static str, run: fn(&mut Input, &dyn Calls, usize) -> u64) -> Case {
+    Case {
+        name,
+        times: 64,
+        run,
+    }
+}
+
+#[cfg(test)]
+mod tests {
+    use super::*;
+    use crate::baseline::Baseline;
+    use std::collections::BTreeSet;
+
+    /// Or two sides might come to the same without making the calls.
+    #[test]
+    fn each_call_more_comes_to_another_sum() {
+        for size in SIZES {
+            let mut input = Input::of(size);
+            for case in &CASES {
+                let sums = (0..4).map(|times| (case.run)(&mut input, &Baseline, times));
+                let name = case.name;
+                assert_eq!(sums.collect::<BTreeSet<u64>>().len(), 4, "{name}, {size:?}");
+            }
+        }
+    }
+}

@@ -1,0 +1,202 @@
+//! A table and the markings for it, of any number of events and relations.
+//! Every kind of relation comes up, and the check accepts.
+
+use second::{Marking, Record, Relation, Table};
+
+/// How many events and relations.
+#[derive(Clone, Copy, PartialEq, Eq, Debug)]
+pub struct Size {
+    pub events: usize,
+    pub relations: usize,
+}
+
+impl Size {
+    pub const fn of(events: usize, relations: usize) -> Size {
+        Size { events, relations }
+    }
+}
+
+fn relation(kind: u8, left: usize, right: usize, time: Option<u32>) -> Relation {
+    Relation {
+        kind,
+        left: left as u8,
+        right: right as u8,
+        bounded: time.is_some(),
+        time: time.unwrap_or(0),
+    }
+}
+
+/// Every other relation is a condition on a later event, so that all of them
+/// are a chain from event 0 on, as far as they reach. Responses go from the upper
+/// half of the events to the lower, milestones the other way, so that no response
+/// is one. An event that excludes itself includes itself too.
+fn nth(size: Size, n: usize) -> Relation {
+    let Size { events, .. } = size;
+    let (half, k) = (events / 2, n / 8);
+    match n % 8 {
+        1 => relation(
+            2,
+            events - 1 - k % half,
+            k % half,
+            (k % 4 != 3).then_some(10),
+        ),
+        3 => relation(3, k % events, k % events, None),
+        5 => relation(5, k % half, half + 3 * k % half, None),
+        7 => relation(4, k % (events - 1), k % (events - 1), None),
+        _ => {
+            let (lap, left) = (n / 2 / (events - 1), n / 2 % (events - 1));
+            let right = (left + 1 + lap % 2).min(events - 1);
+            relation(1, left, right, Some(0))
+        }
+    }
+}
+
+/// All events are causable, all but the last are controllable.
+pub fn table(size: Size) -> Table {
+    let mut table = Table::EMPTY;
+    table.events = size.events;
+    table.count = size.relations;
+    table.causable = u64::MAX >> (64 - size.events);
+    table.controllable = table.causable >> 1;
+    for n in 0..size.relations {
+        table.relations[n] = nth(size, n);
+    }
+    table
+}
+
+/// The last relation has event 0 include event 1, both in the closure: reason 6,
+/// the last that is looked for, at the last place.
+pub fn rejected_table(size: Size) -> Table {
+    let mut table = table(size);
+    table.relations[size.relations - 1] = relation(3, 0, 1, None);
+    table
+}
+
+/// Every event included, and happened or not, but for the first, which has
+/// happened and is pending with a deadline.
+fn marking(size: Size, happened: bool, deadline: u32) -> Marking {
+    let mut marking = Marking::EMPTY;
+    marking.events = size.events;
+    for event in 0..size.events {
+        marking.records[event] = Record {
+            included: true,
+            happened: happened || event == 0,
+            pending: event == 0,
+            bounded: event == 0,
+            deadline: if event == 0 { deadline } else { 0 },
+            ..Record::EMPTY
+        };
+    }
+    marking
+}
+
+/// Nothing is due, and nothing blocks.
+pub fn quiet(size: Size) -> Marking {
+    marking(size, true, 1000)
+}
+
+/// Event 0 is due, and nothing blocks it.
+pub fn one_due(size: Size) -> Marking {
+    marking(size, true, 0)
+}
+
+/// Event 0 is due, and no other event has happened: each is needed by the one before it.
+pub fn chain(size: Size) -> Marking {
+    marking(size, false, 0)
+}
+
+/// Events 0 and 1 are due, and nothing blocks them.
+pub fn two_due(size: Size) -> Marking {
+    let mut marking = one_due(size);
+    marking.records[1] = marking.records[0];
+    marking
+}
+
+/// Neither list's first two discharge; the preferred list's third does not either.
+pub const PREFERRED: [u8; 3] = [1, 1, 1];
+pub const FALLBACK: [u8; 3] = [1, 1, 0];
+
+/// Of 16 steps 12 are guarded ticks; there is a report of the last event, two
+/// requests, and a plain tick.
+pub fn steps(size: Size, count: usize) -> Vec<u8> {
+    let step = |n: usize| match n % 16 {
+        0 => [1, size.events as u8 - 1],
+        5 | 10 => [0, (7 * n % size.events) as u8],
+        13 => [2, 0],
+        _ => [3, 0],
+    };
+    (0..count).flat_map(step).collect()
+}
+
+#[cfg(test)]
+mod tests {
+    use super::*;
+    use crate::cases::SIZES;
+    use second::{check, enabled, guarded_tick, remedies, report, request, run_bytes};
+
+    #[test]
+    fn the_check_accepts_what_is_to_be_accepted() {
+        for size in SIZES {
+            for marking in [quiet(size), one_due(size), chain(size), two_due(size)] {
+                assert_eq!(check(&table(size), &marking).number, 0, "{size:?}");
+            }
+            let rejected = check(&rejected_table(size), &quiet(size));
+            assert_eq!((rejected.number, rejected.reason), (12, 6));
+            assert_eq!(usize::from(rejected.place), size.relations - 1);
+        }
+    }
+
+    /// How many events a chain needs: its conditions reach so far.
+    fn reach(size: Size) -> usize {
+        size.events.min(size.relations / 2 + 1)
+    }
+
+    #[test]
+    fn a_guarded_tick_causes_what_its_name_says() {
+        for size in SIZES {
+            let caused = |m: Marking| usize::from(guarded_tick(&table(size), &m).count);
+            assert_eq!(caused(quiet(size)), 0);
+            assert_eq!(caused(one_due(size)), 1);
+            assert!(caused(chain(size)) >= reach(size), "{size:?}");
+        }
+    }
+
+    #[test]
+    fn the_fallback_has_a_remedy_of_three() {
+        for size in SIZES {
+            let answer = remedies(&table(size), &two_due(size), &PREFERRED, &FALLBACK);
+            assert_eq!(
+                (answer.number, answer.from_fallback, answer.length),
+                (0, true, 3)
+            );
+        }
+    }
+
+    #[test]
+    fn every_event_is_enabled_and_can_be_asked_for() {
+        for size in SIZES {
+            let (t, m) = (table(size), quiet(size));
+            for event in 0..size.events {
+                assert!(enabled(&t, &m, event).enabled);
+                let asked = if event + 1 < size.events {
+                    request
+                } else {
+                    report
+                };
+                assert_eq!(asked(&t, &m, event).number, 0);
+            }
+        }
+    }
+
+    #[test]
+    fn most_steps_of_a_run_are_done() {
+        for size in SIZES {
+            let mut answers = [0; 4096];
+            let (t, m) = (table(size), quiet(size));
+            let answer = run_bytes(&t, &m, &steps(size, 4096), &mut answers);
+            assert_eq!(answer.number, 0);
+            let done = answers.iter().filter(|&&number| number == 0).count();
+            assert!(done > 3000, "{size:?}: {done}");
+        }
+    }
+}
