@@ -19,7 +19,10 @@ pub if-done : (n : ℕ) (b : Bool) → (suc n) if b ≡ 0 → b ≡ false
 if-done n true h = absurd (omega (arith, h))
 if-done n false h = refl
 
--- a number that is not 'done' stands
+-- 'done' asks the next; any other number stands
+pub else-done : {a : ℕ} (b : ℕ) → a ≡ 0 → (a else b) ≡ b
+else-done b p = rw p
+
 pub else-refused : {a : ℕ} (b : ℕ) → (a ≡ 0 → ⊥) → (a else b) ≡ a
 else-refused {a = zero} b h = absurd (h refl)
 else-refused {a = suc a} b h = refl
