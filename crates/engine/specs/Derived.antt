@@ -53,6 +53,13 @@ pub record Reached (rows : List ℕ) (conditions milestones set r : ℕ) : Type 
       → ((e x : ℕ) → e < 64 → p e ≡ true → has (inhibitorsIn rows conditions milestones e) x ≡ true → p x ≡ true)
       → (x : ℕ) → has r x ≡ true → p x ≡ true
 
+-- a set of events on no cycle: each has its inhibitors in the set, and lower than itself in some order; `most` is above the whole of it
+pub record Cleared (rows : List ℕ) (cleared : ℕ) : Type 0 where
+  pub rank : ℕ → ℕ
+  pub most : ℕ
+  pub below : (x : ℕ) → has cleared x ≡ true → rank x < most
+  pub lower : (e x : ℕ) → e < 64 → has cleared e ≡ true → has (inhibitorsIn rows everyEvent everyEvent e) x ≡ true → (has cleared x ≡ true) × (rank x < rank e)
+
 -- an event of a set with no inhibitor in it
 abbrev pub readyIn : List ℕ → ℕ → ℕ → Bool
 readyIn rows set e = has set e && eqb (inhibitorsIn rows set set e) 0

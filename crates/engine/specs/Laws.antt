@@ -6,6 +6,7 @@ pub mod Reached
 pub mod Sorts
 pub mod Derived
 pub mod Followed
+pub mod Cleared
 pub mod Each
 pub mod Ends
 pub mod Reasons

@@ -4,7 +4,7 @@ use crate::word;
 use rules::Relation;
 use rules::Table;
 ghost use mathlib.Core.Path.{_≡_};
-ghost use Prim.Native.Nat.{ℕ, _<_};
+ghost use Prim.Native.Nat.{_<_};
 ghost use Rattle.rules.specs.Laws.Judge.{GoodTable};
 ghost use Rattle.engine.specs.Derived.{sortOf, Derived};
 

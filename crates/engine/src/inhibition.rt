@@ -3,14 +3,14 @@ use crate::derived;
 use crate::event_set;
 use crate::word;
 ghost use mathlib.Core.Path.{_≡_};
-ghost use Prim.Native.Nat.{ℕ, _<_, _^_};
+ghost use Prim.Native.Nat.{_<_, _^_};
 ghost use lib.ListN.{length};
 ghost use Rattle.rules.specs.declared.Table.{Table};
 ghost use Rattle.rules.specs.Counting.{lowest};
 ghost use Rattle.rules.specs.EventSet.{has};
 ghost use Rattle.rules.specs.Check.{awaited, onCycle};
 ghost use Rattle.rules.specs.Laws.Judge.{GoodTable};
-ghost use Rattle.engine.specs.Derived.{Derived, inhibitorsIn, Reached, readyIn};
+ghost use Rattle.engine.specs.Derived.{Cleared, Derived, inhibitorsIn, Reached, readyIn};
 
 // Every event, whether it exists or not.
 pub const EVERY: u64 = 0xffff_ffff_ffff_ffff;
@@ -53,12 +53,68 @@ fn cyclic(rows: &[u64], e: usize) -> bool
     event_set::has_event(reached(rows, EVERY, EVERY, first), e)
 }
 
+// One event more is cleared once all its inhibitors are: what is cleared is on no cycle.
+fn clearing(rows: &[u64], cleared: u64, e: usize) -> u64
+    requires { ⌜ length (now rows) ≡ 512 ⌝ }
+    requires { ⌜ e < 64 ⌝ }
+    requires { ⌜ Cleared (now rows) cleared ⌝ }
+    ensures { λ r. ⌜ Cleared (now (rows .entry)) r ⌝ }
+{
+    if word::without(inhibitors(rows, EVERY, EVERY, e), cleared) == 0 {
+        return word::adding(cleared, e);
+    }
+    cleared
+}
+
+// From the highest event of a set down: this clears what waits for higher events.
+fn cleared_down(rows: &[u64], set: u64, cleared: u64) -> u64
+    requires { ⌜ length (now rows) ≡ 512 ⌝ }
+    requires { ⌜ Cleared (now rows) cleared ⌝ }
+    ensures { λ r. ⌜ Cleared (now (rows .entry)) r ⌝ }
+{
+    let mut wider = cleared;
+    let mut e: usize = 64;
+    while 0 < e {
+        e -= 1;
+        if event_set::has_event(set, e) {
+            wider = clearing(rows, wider, e);
+        }
+    }
+    wider
+}
+
+// From the lowest event up: this clears what waits for lower events.
+fn cleared_up(rows: &[u64], set: u64, cleared: u64) -> u64
+    requires { ⌜ length (now rows) ≡ 512 ⌝ }
+    requires { ⌜ Cleared (now rows) cleared ⌝ }
+    ensures { λ r. ⌜ Cleared (now (rows .entry)) r ⌝ }
+{
+    let mut wider = cleared;
+    let mut left = set;
+    while left != 0 {
+        let e = word::lowest(left);
+        wider = clearing(rows, wider, e);
+        left -= 1 << e;
+    }
+    wider
+}
+
+// Three passes clear most events, and a search from each of the others is then cheap.
+fn cleared(rows: &[u64], set: u64) -> u64
+    requires { ⌜ length (now rows) ≡ 512 ⌝ }
+    ensures { λ r. ⌜ Cleared (now (rows .entry)) r ⌝ }
+{
+    let down = cleared_down(rows, set, 0);
+    let both = cleared_up(rows, set, down);
+    cleared_down(rows, set, both)
+}
+
 // The lowest event of a set that is reached from its own inhibitors, 64 for none.
 pub fn first_cyclic(rows: &[u64], set: u64) -> usize
     requires { ⌜ length (now rows) ≡ 512 ⌝ }
     ensures { λ r. ⌜ ((t : Table) → GoodTable t → Derived t (t .count) (now (rows .entry)) → set < 2 ^ t .events → r ≡ lowest 64 (onCycle t set)) ⌝ }
 {
-    let mut left = set;
+    let mut left = word::without(set, cleared(rows, set));
     while left != 0 {
         let e = word::lowest(left);
         if cyclic(rows, e) {

@@ -23,7 +23,7 @@ use Rattle.rules.specs.Check.{awaited}
 use Rattle.rules.specs.Guard.{holdsBack, needed, ready}
 use Rattle.rules.specs.Laws.Tests.{decide, clash, both, join, same-test, and-false}
 use Rattle.rules.specs.Laws.Counting.{some-where, some-at, some-same}
-use Rattle.rules.specs.Laws.EventSet.{has-zero, set-has, set-lt-power}
+use Rattle.rules.specs.Laws.EventSet.{has-zero, set-has, set-holds, set-lt-power}
 use Rattle.rules.specs.Laws.Time.{set-empty}
 use Rattle.rules.specs.Laws.Words.{has-or, has-and}
 use Rattle.rules.specs.Laws.Turns.{same-word}
@@ -168,6 +168,16 @@ module _ (t : Table) (good : GoodTable t) (rows : List ℕ) (made : Derived t (t
       (λ x h. follows-exists e x (sym (inhibitors-follow e b x) ∙ h)) (λ x l. inhibitors-follow e b x) in
       reached-fully everyEvent everyEvent (λ k. followed (relationOf t k)) follows-all _ r (rw first (set-lt-power (follows t e) (t .events))) reached
       ∙ ap (widenedFully t (λ k. followed (relationOf t k))) first
+
+  -- what holds of an event's inhibitors, and of an event's inhibitors whenever of the event, holds of all that it waits for
+  pub awaited-within : (P : ℕ → Type 0) → ((e x : ℕ) → e < 64 → P e → has (inhibitorsIn rows everyEvent everyEvent e) x ≡ true → P x)
+      → (e : ℕ) → e < 64 → ((x : ℕ) → has (inhibitorsIn rows everyEvent everyEvent e) x ≡ true → P x) → (x : ℕ) → has (awaited t e) x ≡ true → P x
+  unfolding awaited
+  awaited-within P on e b first =
+      fully-within t (λ k. followed (relationOf t k)) P
+      (λ k l f h. on (relationOf t k .left) (relationOf t k .right) (left-small t good k l) h
+      (inhibitor-at everyEvent everyEvent (λ i. followed (relationOf t i)) follows-all k l f))
+      (setOf (t .events) (follows t e)) (λ x h. first x (inhibitors-follow e b x ∙ set-holds (follows t e) (t .events) x h .1))
 
   -- The inhibitors that hold back: a condition's where it is missing, a milestone's where it is pending.
   module _ (m : Marking) (sized : m .events ≡ t .events) where

@@ -10,7 +10,7 @@ use lib.Pow.{shr-shr, pow-pos}
 use lib.Bits.{bitAnd}
 use borrow.Author.Tests.{eq-eqb, ne-eqb, lt-ltb, le-ltb, ltb-true, ltb-false}
 use Rattle.rules.specs.EventSet.{has, setOf, lowestOf}
-use Rattle.rules.specs.Laws.Tests.{same-test, and-false}
+use Rattle.rules.specs.Laws.Tests.{not-false, same-test, and-false}
 use Rattle.rules.specs.Laws.Counting.{Found, lowest-cases}
 use Rattle.rules.specs.Laws.EventSet.{has-zero, has-small, set-has, set-holds, has-minus-same, has-minus-other}
 use Rattle.rules.specs.Laws.Words.{has-and, has-not}
@@ -34,6 +34,10 @@ has-without v w x a b = has-and v (2 ^ 64 - 1 - w) x ∙ go (ltb x 64) refl
     go : (t : Bool) → ltb x 64 ≡ t → (has v x && has (2 ^ 64 - 1 - w) x) ≡ (has v x && not (has w x))
     go true e = ap (λ (t : Bool). has v x && t) (has-not 64 w x b (ltb-true x 64 e))
     go false e = rw (has-small v 64 x a (ltb-false x 64 e))
+
+-- a set that has no event without those of another lies in that one
+pub without-none : (v w left : ℕ) → ((x : ℕ) → has left x ≡ (has v x && not (has w x))) → left ≡ 0 → (x : ℕ) → has v x ≡ true → has w x ≡ true
+without-none v w left made none x h = not-false (has w x) (sym (made x ∙ rw h) ∙ ap (λ (s : ℕ). has s x) none ∙ has-zero x)
 
 -- every event of a word
 pub has-every : (x : ℕ) → has everyEvent x ≡ ltb x 64

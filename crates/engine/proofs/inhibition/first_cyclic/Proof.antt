@@ -1,4 +1,4 @@
--- No event of the set is reached from its own inhibitors but among those that are left. Assumes nothing.
+-- What is cleared is on no cycle, and no event of the set is reached from its own inhibitors but among those that are left. Assumes nothing.
 use mathlib.Core.Path.{_≡_, _∙_, sym}
 use Prim.Native.Nat.{_<_, _^_}
 use native.Mathlib.Omega.{arith}
@@ -11,7 +11,8 @@ use Rattle.rules.specs.Laws.Judge.{GoodTable}
 use Rattle.rules.specs.Laws.Widened.{has-below}
 use Rattle.engine.specs.Derived.{Derived}
 use Rattle.engine.specs.Laws.Members.{lowest-found, lowest-worth, lowest-less}
-use Rattle.engine.specs.Laws.Search.{Searched, searched-start, searched-none, searched-here, searched-on}
+use Rattle.engine.specs.Laws.Cleared.{cleared-off}
+use Rattle.engine.specs.Laws.Search.{Searched, searched-but, searched-none, searched-here, searched-on}
 use Rattle.engine.proofs.inhibition.first_cyclic.Statement.{statement}
 use Rattle.engine.proofs.inhibition.first_cyclic.Tie as tie
 
@@ -25,18 +26,31 @@ abbrev μ-loop : tie.MeasureT-loop
 event : (c : tie.After-lowest Inv-loop μ-loop) → Found (has (c .before .before .loop .left)) 64 (c .lowest .result)
 event c = lowest-found _ (c .before .before .loop .inv .0) (c .before .loop-test .taken) _ (c .lowest .ensures)
 
+cleared-requires : tie.Need-cleared-requires Inv-loop μ-loop
+cleared-requires c κs = c .before .pre
+
+without-requires : tie.Need-without-requires Inv-loop μ-loop
+without-requires c κs = tt
+
 loop-holds : tie.Need-loop-holds Inv-loop μ-loop
 unfolding onCycle
-loop-holds c = (c .before .fits .set .fits, λ t g d f. searched-start _ (c .before .args .set) (λ x h. rw h))
+loop-holds c =
+    let s = c .before .before .before in (
+      c .without .ok,
+      λ t g d f.
+          searched-but _ (s .args .set) (c .before .cleared .result) _ (λ x h. rw h)
+          (λ x h o. rw h (cleared-off (s .args .rows .now) (c .before .cleared .ensures) t g d x (has-below 64 _ x (s .fits .set .fits) h) o))
+          (c .without .ensures),
+    )
 
 lowest-requires : tie.Need-lowest-requires Inv-loop μ-loop
 lowest-requires c κs = tt
 
 cyclic-requires : tie.Need-cyclic-requires Inv-loop μ-loop
-cyclic-requires c κs = (c .before .before .before .before .pre, event c .small)
+cyclic-requires c κs = (c .before .before .before .before .before .before .pre, event c .small)
 
 -- what is told of it, by a table that has these rows
-told : (c : tie.After-cyclic Inv-loop μ-loop) → let s = c .before .before .before .before .before in
+told : (c : tie.After-cyclic Inv-loop μ-loop) → let s = c .before .before .before .before .before .before .before in
     (t : Table) → GoodTable t → Derived t (t .count) (s .args .rows .now) → s .args .set < 2 ^ t .events
     → onCycle t (s .args .set) (c .before .lowest .result) ≡ c .cyclic .result
 unfolding onCycle
@@ -82,6 +96,8 @@ first-cyclic-spec =
     (tie.spec
     Inv-loop
     μ-loop
+    cleared-requires
+    without-requires
     loop-holds
     lowest-requires
     cyclic-requires
