@@ -47,7 +47,7 @@ fn costs() -> Result<(), String> {
 }
 
 /// A call that does not read an image is handed decoded values: that the loop
-/// reads them before it is left out.
+/// reads them before it is left out. A call for C reads its images itself.
 fn stack() -> Result<(), String> {
     let mut text = String::new();
     let read = std::io::stdin().read_to_string(&mut text);
@@ -62,7 +62,8 @@ fn stack() -> Result<(), String> {
         }
     }
     println!("| call | bytes | deepest way |\n|---|---:|---|");
-    for name in &names {
+    let for_c: Vec<String> = program.names("duty_").cloned().collect();
+    for name in names.iter().chain(&for_c) {
         let (bytes, way) = program.deepest(name, &[])?;
         let call = name.trim_start_matches("timing_");
         println!("| {call} | {bytes} | {} |", way[1..].join(", "));
