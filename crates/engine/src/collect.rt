@@ -1,4 +1,5 @@
 // Event sets that one pass collects.
+use super::time::is_due;
 use rules::Marking;
 use rules::Record;
 ghost use mathlib.Core.Path.{_≡_};
@@ -7,6 +8,7 @@ ghost use Rattle.engine.specs.Collect.{marks, marked};
 
 pub enum Mark {
     Bounded,
+    Due,
     Excluded,
     Missing,
     Pending,
@@ -17,6 +19,7 @@ fn marks(what: Mark, r: Record) -> bool
 {
     match what {
         Mark::Bounded => if r.pending { r.bounded } else { false },
+        Mark::Due => is_due(r),
         Mark::Excluded => !r.included,
         Mark::Missing => if r.included { !r.happened } else { false },
         Mark::Pending => if r.included { r.pending } else { false },

@@ -1,4 +1,6 @@
 // Due events, and the passing of one tick.
+use super::collect::Mark;
+use super::collect::marked;
 use rules::Marking;
 use rules::MarkingAnswer;
 use rules::Record;
@@ -9,7 +11,7 @@ ghost use Rattle.rules.specs.Numbers.{done};
 ghost use Rattle.rules.specs.Holds.{limit};
 ghost use Rattle.rules.specs.Time.{isDue, dueSet, later, time, plainTickNumber};
 
-fn is_due(r: Record) -> bool
+pub fn is_due(r: Record) -> bool
     ensures { λ b. ⌜ b ≡ isDue r ⌝ }
 {
     if r.included {
@@ -27,17 +29,7 @@ pub fn due_set(m: Marking) -> u64
     requires { ⌜ m .events ≤ 64 ⌝ }
     ensures { λ r. ⌜ r ≡ dueSet m ⌝ }
 {
-    let n = m.events;
-    let mut set: u64 = 0;
-    let mut i = 0;
-    while i < n {
-        let r = m.records[i];
-        if is_due(r) {
-            set += 1 << i;
-        }
-        i += 1;
-    }
-    set
+    marked(m, Mark::Due)
 }
 
 // An age one tick later, held at the limit.
