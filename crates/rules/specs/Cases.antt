@@ -39,7 +39,7 @@ use Rattle.rules.specs.Closure.{busy, follows, widened, widenedFully, cl
 use Rattle.rules.specs.Check.{unreportable, uncausable, waiting, awaited, onCycle, reopening, reviving, verdict, check}
 use Rattle.rules.specs.Guard.{holdsBack, needed, ready, orderOf, taken, takenAll, executedOf, caused, guarded, guardedTick}
 use Rattle.rules.specs.Remedy.{inTurn, effects, discharges, shortest, remedyNumber, remedy}
-use Rattle.rules.specs.Trace.{stepNumber, stepDone, stepped, endOf, answersOf, traceNumber, stepsIn, runBytes, runBytesAnswers}
+use Rattle.rules.specs.Trace.{stepNumber, stepDone, stepped, endOf, answersOf, traceNumber, run, runAnswers, stepsIn, runBytes, runBytesAnswers}
 use Rattle.rules.specs.Station.{station}
 use Rattle.rules.specs.Shop as shop
 
@@ -69,6 +69,8 @@ pub data Question : Type 0 where
   aged : ℕ → Question
   runOf : List ℕ → ℕ → Question
   runBuffer : List ℕ → List ℕ → Question
+  stepsOf : List Step → ℕ → Question
+  stepsBuffer : List Step → List ℕ → Question
   heard : List ℕ → Question
 
 pub data Answer : Type 0 where
@@ -121,6 +123,8 @@ answer t m (reported e) = marks (report t m e)
 answer t m (aged e) = is (recordOf (plainTick t m .marking) e)
 answer t m (runOf steps room) = marks (runBytes t m steps room)
 answer t m (runBuffer steps buffer) = bytes (runBytesAnswers t m steps buffer)
+answer t m (stepsOf steps room) = marks (run t m steps room)
+answer t m (stepsBuffer steps buffer) = bytes (runAnswers t m steps buffer)
 answer t m (heard input) = bytes (station input)
 
 abbrev asks : Table → Marking → Question → Answer → Case
@@ -262,6 +266,10 @@ turning =
     ∷ after [] (runOf (3 ∷ []) 0) (marks (refusal 1 shop.start))
     ∷ after [] (runBuffer (4 ∷ 0 ∷ 1 ∷ 1 ∷ []) (7 ∷ 7 ∷ 7 ∷ [])) (bytes (15 ∷ 9 ∷ 7 ∷ []))
     ∷ after [] (runBuffer (3 ∷ 0 ∷ 3 ∷ 0 ∷ []) (7 ∷ [])) (bytes (7 ∷ []))
+    -- run: a refused step leaves the marking; a buffer too short stays, and nothing is run. Not flush executed; not a first answer
+    ∷ after [] (stepsOf (shop.request 1 ∷ []) 1) (marks (refusal 0 shop.start))
+    ∷ after [] (stepsBuffer (shop.leak ∷ shop.request 1 ∷ []) (7 ∷ [])) (bytes (7 ∷ []))
+    ∷ after [] (stepsBuffer (shop.leak ∷ shop.request 1 ∷ []) (7 ∷ 7 ∷ 7 ∷ [])) (bytes (0 ∷ 10 ∷ 7 ∷ []))
     -- station: an empty input is too short for a table. Not nothing
     ∷ after [] (heard []) (bytes (1 ∷ []))
     ∷ []
@@ -283,5 +291,5 @@ cases = worked ++ mistakes ++ turning
 
 -- every case is answered as told
 pub told-right : map (λ c. answer (c .table) (c .marking) (c .asked)) cases ≡ map (λ c. c .told) cases
-unfolding cases worked mistakes turning answer causedIn every some lowest howMany repeated placesFrom belowFrom firstOf has setOf sizeOf lowestOf field bytesOf timeFits relationNumber tableNumber recordFits markingNumber markingNumberFor judged relationAt relationImageNumber tableImageNumber tableIn readTable recordAt markingImageNumber readMarking recordImage recordImages stops blocks isEnabled withDeadline excludes includes given smallest executed withInclusion effectAt effect isDue anyDue dueSet later time plainTickNumber plainTick requestNumber reportNumber request marginOf margin holdUpOf holdUp busy follows widened widenedFully closure closureAnswer unreportable uncausable waiting awaited onCycle reopening reviving verdict check holdsBack needed ready orderOf taken takenAll executedOf caused guarded guardedTick inTurn effects discharges shortest remedyNumber remedy stepNumber stepDone stepped endOf answersOf traceNumber stepsIn station writeNumber writeMarking fresh enabledAnswer dueAnswer report runBytes runBytesAnswers
+unfolding cases worked mistakes turning answer causedIn every some lowest howMany repeated placesFrom belowFrom firstOf has setOf sizeOf lowestOf field bytesOf timeFits relationNumber tableNumber recordFits markingNumber markingNumberFor judged relationAt relationImageNumber tableImageNumber tableIn readTable recordAt markingImageNumber readMarking recordImage recordImages stops blocks isEnabled withDeadline excludes includes given smallest executed withInclusion effectAt effect isDue anyDue dueSet later time plainTickNumber plainTick requestNumber reportNumber request marginOf margin holdUpOf holdUp busy follows widened widenedFully closure closureAnswer unreportable uncausable waiting awaited onCycle reopening reviving verdict check holdsBack needed ready orderOf taken takenAll executedOf caused guarded guardedTick inTurn effects discharges shortest remedyNumber remedy stepNumber stepDone stepped endOf answersOf traceNumber stepsIn station writeNumber writeMarking fresh enabledAnswer dueAnswer report run runAnswers runBytes runBytesAnswers
 told-right = refl
