@@ -3,19 +3,10 @@
 //! cases at the limits.
 
 use second::case::Pair;
-use second::{Marking, Record, Relation, Table};
+use second::generate::relation;
+use second::{Marking, Record, Table};
 
 const EVENTS: usize = 64;
-
-fn relation(kind: u8, left: usize, right: usize, time: Option<u32>) -> Relation {
-    Relation {
-        kind,
-        left: left as u8,
-        right: right as u8,
-        bounded: time.is_some(),
-        time: time.unwrap_or(0),
-    }
-}
 
 /// Each event has the next two as conditions and includes itself; responses
 /// fill the rest.

@@ -10,65 +10,43 @@ use second::{
 };
 use std::collections::BTreeSet;
 
-fn table(t: &second::Table) -> fast::Table {
-    fast::Table {
-        relations: t.relations.map(|k| fast::Relation {
-            kind: k.kind,
-            left: k.left,
-            right: k.right,
-            bounded: k.bounded,
-            time: k.time,
-        }),
-        controllable: t.controllable,
-        causable: t.causable,
-        events: t.events,
-        count: t.count,
-    }
+/// The decoded values of one implementation as the other's: they have the same fields.
+macro_rules! as_the_others {
+    ($table:ident, $marking:ident, $from:ident, $to:ident) => {
+        fn $table(t: &$from::Table) -> $to::Table {
+            $to::Table {
+                relations: t.relations.map(|k| $to::Relation {
+                    kind: k.kind,
+                    left: k.left,
+                    right: k.right,
+                    bounded: k.bounded,
+                    time: k.time,
+                }),
+                controllable: t.controllable,
+                causable: t.causable,
+                events: t.events,
+                count: t.count,
+            }
+        }
+
+        fn $marking(m: &$from::Marking) -> $to::Marking {
+            $to::Marking {
+                records: m.records.map(|r| $to::Record {
+                    age: r.age,
+                    deadline: r.deadline,
+                    happened: r.happened,
+                    included: r.included,
+                    pending: r.pending,
+                    bounded: r.bounded,
+                }),
+                events: m.events,
+            }
+        }
+    };
 }
 
-fn table_back(t: &fast::Table) -> second::Table {
-    second::Table {
-        relations: t.relations.map(|k| second::Relation {
-            kind: k.kind,
-            left: k.left,
-            right: k.right,
-            bounded: k.bounded,
-            time: k.time,
-        }),
-        controllable: t.controllable,
-        causable: t.causable,
-        events: t.events,
-        count: t.count,
-    }
-}
-
-fn marking(m: &second::Marking) -> fast::Marking {
-    fast::Marking {
-        records: m.records.map(|r| fast::Record {
-            age: r.age,
-            deadline: r.deadline,
-            happened: r.happened,
-            included: r.included,
-            pending: r.pending,
-            bounded: r.bounded,
-        }),
-        events: m.events,
-    }
-}
-
-fn marking_back(m: &fast::Marking) -> second::Marking {
-    second::Marking {
-        records: m.records.map(|r| second::Record {
-            age: r.age,
-            deadline: r.deadline,
-            happened: r.happened,
-            included: r.included,
-            pending: r.pending,
-            bounded: r.bounded,
-        }),
-        events: m.events,
-    }
-}
+as_the_others!(table, marking, second, fast);
+as_the_others!(table_back, marking_back, fast, second);
 
 fn decoded(pair: &Pair) -> (fast::Table, fast::Marking) {
     (table(&pair.table), marking(&pair.marking))

@@ -1,6 +1,7 @@
 //! A table and the markings for it, of any number of events and relations.
 //! Every kind of relation comes up, and the check accepts.
 
+use second::generate::relation;
 use second::{Marking, Record, Relation, Table};
 
 /// How many events and relations.
@@ -13,16 +14,6 @@ pub struct Size {
 impl Size {
     pub const fn of(events: usize, relations: usize) -> Size {
         Size { events, relations }
-    }
-}
-
-fn relation(kind: u8, left: usize, right: usize, time: Option<u32>) -> Relation {
-    Relation {
-        kind,
-        left: left as u8,
-        right: right as u8,
-        bounded: time.is_some(),
-        time: time.unwrap_or(0),
     }
 }
 

@@ -4,6 +4,8 @@
 mod damage;
 mod shape;
 
+pub use shape::relation;
+
 use crate::bits::BitWriter;
 use crate::case::{Case, Pair};
 use crate::decoded::{Marking, Record, Relation, Table, MOST_EVENTS, MOST_RELATIONS};

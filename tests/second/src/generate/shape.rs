@@ -152,7 +152,8 @@ impl Plan {
     }
 }
 
-fn relation(kind: u8, left: usize, right: usize, time: Option<u32>) -> Relation {
+/// A relation, bounded where it has a time.
+pub fn relation(kind: u8, left: usize, right: usize, time: Option<u32>) -> Relation {
     Relation {
         kind,
         left: left as u8,
