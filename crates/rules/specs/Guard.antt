@@ -44,9 +44,13 @@ orderOf t (suc n) untaken =
 abbrev pub order : Table → Marking → List ℕ
 order t m = orderOf t (t .events) (needed t m)
 
--- an event is executed if included at that moment, else skipped
+-- an event goes ahead at its turn, where m is the marking at that moment: it is included
+abbrev pub goesAhead : Table → Marking → ℕ → Bool
+goesAhead t m e = recordOf m e .included
+
+-- it is executed if it goes ahead, else skipped
 unfoldable pub taken : Table → Marking → ℕ → Marking
-taken t m e = cond (recordOf m e .included) (effect t m e) m
+taken t m e = cond (goesAhead t m e) (effect t m e) m
 
 unfoldable pub takenAll : Table → Marking → List ℕ → Marking
 takenAll t m [] = m
@@ -55,7 +59,7 @@ takenAll t m (e ∷ rest) = takenAll t (taken t m e) rest
 -- the executed events, in order
 unfoldable pub executedOf : Table → Marking → List ℕ → List ℕ
 executedOf t m [] = []
-executedOf t m (e ∷ rest) = let then = executedOf t (taken t m e) rest in cond (recordOf m e .included) (e ∷ then) then
+executedOf t m (e ∷ rest) = let then = executedOf t (taken t m e) rest in cond (goesAhead t m e) (e ∷ then) then
 
 unfoldable pub caused : Table → Marking → List ℕ
 caused t m = executedOf t m (order t m)

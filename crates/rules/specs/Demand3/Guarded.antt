@@ -13,7 +13,7 @@ use Rattle.rules.specs.EventSet.{has}
 use Rattle.rules.specs.Holds.{recordOf}
 use Rattle.rules.specs.Enabled.{isEnabled}
 use Rattle.rules.specs.Time.{isDue, anyDue}
-use Rattle.rules.specs.Guard.{needed, order, taken, takenAll, executedOf, caused}
+use Rattle.rules.specs.Guard.{needed, order, goesAhead, taken, takenAll, executedOf, caused}
 use Rattle.rules.specs.Remedy.{inTurn, effects}
 use Rattle.rules.specs.Laws.Tests.{decide, join}
 use Rattle.rules.specs.Laws.Counting.{some-false}
@@ -42,15 +42,15 @@ module _ (t : Table) (X : ℕ) (st : Static t X) (o : Marking) (j : Invariant t 
       let then = along (taken t m e) (λ x p. sub x (stays t untaken e x u p)) r (loop-turn t X st o j untaken m v e b u need) in
       (head (turn-enabled t X st o j untaken m v e b u need before) (then .0), then .1, then .2)
     where
-      head : (recordOf m e .included ≡ true → isEnabled t m e ≡ true) → inTurn t (taken t m e) (executedOf t (taken t m e) rest) ≡ true
-          → inTurn t m (cond (recordOf m e .included) (e ∷ executedOf t (taken t m e) rest) (executedOf t (taken t m e) rest)) ≡ true
+      head : (goesAhead t m e ≡ true → isEnabled t m e ≡ true) → inTurn t (taken t m e) (executedOf t (taken t m e) rest) ≡ true
+          → inTurn t m (cond (goesAhead t m e) (e ∷ executedOf t (taken t m e) rest) (executedOf t (taken t m e) rest)) ≡ true
       head enabled h =
           let on : Marking → Type 0 = λ n. inTurn t n (executedOf t (taken t m e) rest) ≡ true in
           ⊎-elim
-          (λ (i : recordOf m e .included ≡ true). rw i
+          (λ (i : goesAhead t m e ≡ true). rw i
           (join (join (join (lt-ltb e (t .events) b) (st .x3 e b (needed-in t X st o j e (sub e u)))) (enabled i)) (subst on (taken-in t m e i) h)))
-          (λ (i : recordOf m e .included ≡ false). rw i (subst on (taken-out t m e i) h))
-          (decide (recordOf m e .included))
+          (λ (i : goesAhead t m e ≡ false). rw i (subst on (taken-out t m e i) h))
+          (decide (goesAhead t m e))
 
   takes : Takes t (needed t o) (order t o)
   takes = order-is t good-t o (λ x h. st .x5 x (needed-exists t good-t o same-o x h) (needed-in t X st o j x h))

@@ -15,7 +15,7 @@ use Rattle.rules.specs.Enabled.{stops, blocks, isEnabled}
 use Rattle.rules.specs.Effect.{effect}
 use Rattle.rules.specs.Time.{isDue, time}
 use Rattle.rules.specs.Closure.{followed, follows}
-use Rattle.rules.specs.Guard.{holdsBack, needed, taken}
+use Rattle.rules.specs.Guard.{holdsBack, needed, goesAhead, taken}
 use Rattle.rules.specs.Laws.Tests.{decide, clash, denied, both, join}
 use Rattle.rules.specs.Laws.Counting.{some-false}
 use Rattle.rules.specs.Laws.EventSet.{has-minus-other}
@@ -23,6 +23,7 @@ use Rattle.rules.specs.Laws.Judge.{GoodTable, good}
 use Rattle.rules.specs.Laws.Closure.{follows-at}
 use Rattle.rules.specs.Laws.HoldsBack.{stops-holds-back, holds-back-parts, holds-back-condition, holds-back-milestone, holds-back-followed}
 use Rattle.rules.specs.Laws.Needed.{needed-due, needed-on, needed-within}
+use Rattle.rules.specs.Laws.Taken.{ahead-included, behind-excluded, taken-in, taken-out}
 use Rattle.rules.specs.Demand3.Records.{ranOut, due-parts, due-is, ran-out-under}
 use Rattle.rules.specs.Demand3.Facts.{Linked, effect-events, s1, s3, s3-own, s4, s6}
 use Rattle.rules.specs.Demand3.Invariant.{Static, Invariant}
@@ -85,8 +86,8 @@ module _ (t : Table) (X : ℕ) (st : Static t X) (o : Marking) (j : Invariant t 
         (decide (eqb x e))
 
     -- a skipped event: the marking stays
-    loop-skip : recordOf m e .included ≡ false → Loop t X o (untaken - 2 ^ e) m
-    loop-skip out =
+    loop-skip : goesAhead t m e ≡ false → Loop t X o (untaken - 2 ^ e) m
+    loop-skip behind =
         record {
           i0 = v .i0;
           i1 = v .i1;
@@ -95,6 +96,9 @@ module _ (t : Table) (X : ℕ) (st : Static t X) (o : Marking) (j : Invariant t 
           i4 = λ x l n u i. ⊎-elim (λ q. absurd (clash i (subst (λ (y : ℕ). recordOf m y .included ≡ false) (sym q) out))) (λ q. v .i4 x l n q i) (taken-or-own x u);
           i5 = v .i5;
         }
+      where
+        out : recordOf m e .included ≡ false
+        out = behind-excluded t m e behind
 
     -- a member that is included afterwards was included before
     was : recordOf m e .included ≡ true → (x : ℕ) → x < t .events → has X x ≡ true → recordOf (effect t m e) x .included ≡ true → recordOf m x .included ≡ true
@@ -129,8 +133,8 @@ module _ (t : Table) (X : ℕ) (st : Static t X) (o : Marking) (j : Invariant t 
           settled = λ k c q r to. denied (recordOf (effect t m e) x .pending) (λ h. clash (still k c q r x l to h .0) (p .settled k c q r to));
         }
 
-    loop-execute : recordOf m e .included ≡ true → Loop t X o (untaken - 2 ^ e) (effect t m e)
-    loop-execute now =
+    loop-execute : goesAhead t m e ≡ true → Loop t X o (untaken - 2 ^ e) (effect t m e)
+    loop-execute ahead =
         record {
           i0 = same-effect;
           i1 = λ x l p h. v .i1 x l p (was now x l p h);
@@ -143,22 +147,24 @@ module _ (t : Table) (X : ℕ) (st : Static t X) (o : Marking) (j : Invariant t 
           i5 = λ x l h. v .i5 x l (s6 t m e x (here l) good-t h .0);
         }
       where
+        now : recordOf m e .included ≡ true
+        now = ahead-included t m e ahead
+
         same-effect : effect t m e .events ≡ t .events
         same-effect = effect-events t m e ∙ v .i0
 
     pub loop-turn : Loop t X o (untaken - 2 ^ e) (taken t m e)
-    unfolding taken
     loop-turn =
         ⊎-elim
-        (λ (i : recordOf m e .included ≡ true). rw i (loop-execute i))
-        (λ (i : recordOf m e .included ≡ false). rw i (loop-skip i))
-        (decide (recordOf m e .included))
+        (λ (i : goesAhead t m e ≡ true). rw (taken-in t m e i) (loop-execute i))
+        (λ (i : goesAhead t m e ≡ false). rw (taken-out t m e i) (loop-skip i))
+        (decide (goesAhead t m e))
 
-    -- Lemma 9: included at its turn, with no untaken inhibitor, it is enabled
-    pub turn-enabled : ((f : ℕ) → f < t .events → follows t e f ≡ true → has untaken f ≡ false) → recordOf m e .included ≡ true → isEnabled t m e ≡ true
+    -- Lemma 9: going ahead at its turn, with no untaken inhibitor, it is enabled
+    pub turn-enabled : ((f : ℕ) → f < t .events → follows t e f ≡ true → has untaken f ≡ false) → goesAhead t m e ≡ true → isEnabled t m e ≡ true
     unfolding isEnabled blocks
-    turn-enabled before now =
-        join now (ap not (some-false (blocks t m e) (t .count) (λ k c. denied (blocks t m e k) (λ h. blocked k c h))))
+    turn-enabled before ahead =
+        join (ahead-included t m e ahead) (ap not (some-false (blocks t m e) (t .count) (λ k c. denied (blocks t m e k) (λ h. blocked k c h))))
       where
         blocked : (k : ℕ) → k < t .count → blocks t m e k ≡ true → ⊥
         blocked k c h =

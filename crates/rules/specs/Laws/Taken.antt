@@ -1,5 +1,5 @@
--- Taking a list of events, each executed if it is included at its turn, else skipped: it is executing those that are executed, of which there
--- are no more than were taken; and the guarded tick is that, and a tick. Assumes nothing.
+-- Taking a list of events, each executed if it goes ahead at its turn, else skipped: it is executing those that are executed, of which there
+-- are no more than were taken; and the guarded tick is that, and a tick. What going ahead means is asked by the first two laws alone. Assumes nothing.
 use mathlib.Core.Path.{_≡_, refl, _∙_, ap}
 use mathlib.Core.Bool.{Bool, true, false, cond}
 use mathlib.Core.List.{List, [], _∷_}
@@ -13,18 +13,26 @@ use Rattle.rules.specs.declared.Marking.{Marking}
 use Rattle.rules.specs.Holds.{recordOf}
 use Rattle.rules.specs.Effect.{effect}
 use Rattle.rules.specs.Time.{time}
-use Rattle.rules.specs.Guard.{needed, order, taken, takenAll, executedOf, caused, guarded}
+use Rattle.rules.specs.Guard.{needed, order, goesAhead, taken, takenAll, executedOf, caused, guarded}
 use Rattle.rules.specs.Remedy.{effects}
 use Rattle.rules.specs.Laws.Tests.{decide}
 use Rattle.rules.specs.Laws.Order.{times, order-length}
 
--- one event is taken: executed if included, else skipped
+-- one event is taken
 module _ (t : Table) (m : Marking) (e : ℕ) where
-  pub taken-in : recordOf m e .included ≡ true → taken t m e ≡ effect t m e
+  -- what goes ahead is included, and what does not is excluded
+  pub ahead-included : goesAhead t m e ≡ true → recordOf m e .included ≡ true
+  ahead-included i = i
+
+  pub behind-excluded : goesAhead t m e ≡ false → recordOf m e .included ≡ false
+  behind-excluded i = i
+
+  -- executed if it goes ahead, else skipped
+  pub taken-in : goesAhead t m e ≡ true → taken t m e ≡ effect t m e
   unfolding taken
   taken-in i = rw i
 
-  pub taken-out : recordOf m e .included ≡ false → taken t m e ≡ m
+  pub taken-out : goesAhead t m e ≡ false → taken t m e ≡ m
   unfolding taken
   taken-out i = rw i
 
@@ -33,11 +41,11 @@ module _ (t : Table) where
   pub taken-effects : (m : Marking) (l : List ℕ) → takenAll t m l ≡ effects t m (executedOf t m l)
   unfolding takenAll executedOf effects
   taken-effects m [] = refl
-  taken-effects m (e ∷ l) = go (decide (recordOf m e .included)) (taken-effects (taken t m e) l)
+  taken-effects m (e ∷ l) = go (decide (goesAhead t m e)) (taken-effects (taken t m e) l)
     where
-      go : (recordOf m e .included ≡ true) ⊎ (recordOf m e .included ≡ false)
+      go : (goesAhead t m e ≡ true) ⊎ (goesAhead t m e ≡ false)
           → takenAll t (taken t m e) l ≡ effects t (taken t m e) (executedOf t (taken t m e) l)
-          → takenAll t (taken t m e) l ≡ effects t m (cond (recordOf m e .included) (e ∷ executedOf t (taken t m e) l) (executedOf t (taken t m e) l))
+          → takenAll t (taken t m e) l ≡ effects t m (cond (goesAhead t m e) (e ∷ executedOf t (taken t m e) l) (executedOf t (taken t m e) l))
       go (inl i) ih = rw i (ih ∙ ap (λ (n : Marking). effects t n (executedOf t (taken t m e) l)) (taken-in t m e i))
       go (inr i) ih = rw i (ih ∙ ap (λ (n : Marking). effects t n (executedOf t (taken t m e) l)) (taken-out t m e i))
 
@@ -45,7 +53,7 @@ module _ (t : Table) where
   pub executed-fewer : (x : ℕ) (m : Marking) (l : List ℕ) → times x (executedOf t m l) ≤ times x l
   unfolding times executedOf
   executed-fewer x m [] = omega arith
-  executed-fewer x m (e ∷ l) = go (recordOf m e .included) (eqb x e) refl (executedOf t (taken t m e) l) (executed-fewer x (taken t m e) l)
+  executed-fewer x m (e ∷ l) = go (goesAhead t m e) (eqb x e) refl (executedOf t (taken t m e) l) (executed-fewer x (taken t m e) l)
     where
       go : (i c : Bool) → eqb x e ≡ c → (r : List ℕ) → times x r ≤ times x l → times x (cond i (e ∷ r) r) ≤ cond (eqb x e) (suc (times x l)) (times x l)
       go true true q r h = rw q (omega arith)
@@ -57,7 +65,7 @@ module _ (t : Table) where
   pub executed-length : (m : Marking) (l : List ℕ) → length (executedOf t m l) ≤ length l
   unfolding executedOf
   executed-length m [] = omega arith
-  executed-length m (e ∷ l) = go (recordOf m e .included) (executed-length (taken t m e) l)
+  executed-length m (e ∷ l) = go (goesAhead t m e) (executed-length (taken t m e) l)
     where
       go : (i : Bool) → length (executedOf t (taken t m e) l) ≤ length l → length (cond i (e ∷ executedOf t (taken t m e) l) (executedOf t (taken t m e) l)) ≤ suc (length l)
       go true h = omega arith

@@ -16,12 +16,11 @@ use Rattle.rules.specs.declared.Step.{Step}
 use Rattle.rules.specs.declared.MarkingAnswer.{MarkingAnswer}
 use Rattle.rules.specs.Numbers.{_if_, done, checkNumber}
 use Rattle.rules.specs.Judge.{judged}
-use Rattle.rules.specs.Holds.{recordOf}
 use Rattle.rules.specs.Effect.{effect}
 use Rattle.rules.specs.Time.{time, plainTickNumber}
 use Rattle.rules.specs.Ask.{requestNumber, reportNumber}
 use Rattle.rules.specs.Check.{verdict}
-use Rattle.rules.specs.Guard.{order, taken, takenAll, guarded}
+use Rattle.rules.specs.Guard.{order, goesAhead, taken, takenAll, guarded}
 use Rattle.rules.specs.Trace.{stepNumber, stepDone, stepped, endOf, answersOf, traceNumber, stepsIn, bytesNumber, runBytes, runBytesAnswers}
 use Rattle.rules.specs.Laws.Tests.{join, or-left, or-right, neither}
 use Rattle.rules.specs.Laws.Numbers.{if-done, both-done}
@@ -69,7 +68,7 @@ module _ (t : Table) where
   -- judged values stay judged
   taken-judged : (m : Marking) (e : ℕ) → judged t m ≡ 0 → judged t (taken t m e) ≡ 0
   unfolding taken
-  taken-judged m e h = go (recordOf m e .included)
+  taken-judged m e h = go (goesAhead t m e)
     where
       go : (b : Bool) → judged t (cond b (effect t m e) m) ≡ 0
       go true = effect-judged t m e h
