@@ -39,7 +39,8 @@ use Rattle.rules.specs.Closure.{busy, follows, widened, widenedFully, cl
 use Rattle.rules.specs.Check.{unreportable, uncausable, waiting, awaited, onCycle, reopening, reviving, verdict, check}
 use Rattle.rules.specs.Guard.{holdsBack, needed, ready, orderOf, taken, takenAll, executedOf, caused, guarded, guardedTick}
 use Rattle.rules.specs.Remedy.{inTurn, effects, discharges, shortest, remedyNumber, remedy}
-use Rattle.rules.specs.Trace.{stepNumber, stepDone, stepped, endOf, answersOf, traceNumber, run, runAnswers, stepsIn, runBytes, runBytesAnswers}
+use Rattle.rules.specs.Trace.{guardedTickKind, stepNumber, stepDone, stepped, endOf, answersOf, traceNumber, run, runAnswers}
+use Rattle.rules.specs.Trace.{stepsIn, runBytes, runBytesAnswers}
 use Rattle.rules.specs.Station.{station}
 use Rattle.rules.specs.Shop as shop
 
@@ -96,7 +97,7 @@ pub record Case : Type 0 where
 -- the events that the guarded ticks of a trace cause, in order
 unfoldable pub causedIn : Table → Marking → List Step → List ℕ
 causedIn t m [] = []
-causedIn t m (s ∷ rest) = cond (eqb (s .kind) 3) (caused t m) [] ++ causedIn t (stepped t m s) rest
+causedIn t m (s ∷ rest) = cond (eqb (s .kind) guardedTickKind) (caused t m) [] ++ causedIn t (stepped t m s) rest
 
 unfoldable pub answer : Table → Marking → Question → Answer
 answer t m checked = verdicts (check t m)

@@ -37,10 +37,14 @@ shortest t m list = lowest (suc (length list)) (λ n. discharges t m (take n lis
 abbrev pub hasStart : Table → Marking → List ℕ → Bool
 hasStart t m list = leb (shortest t m list) (length list)
 
+-- an offered list has at most so many events
+abbrev pub longestList : ℕ
+longestList = 255
+
 -- 14, 13
 unfoldable pub remedyNumber : Table → Marking → List ℕ → List ℕ → ℕ
 remedyNumber t m preferred fallback =
-    14 if (ltb 255 (length preferred) || ltb 255 (length fallback))
+    14 if (ltb longestList (length preferred) || ltb longestList (length fallback))
     else 13 if not (hasStart t m preferred || hasStart t m fallback)
 
 unfoldable pub remedy : Table → Marking → List ℕ → List ℕ → RemedyAnswer

@@ -18,17 +18,38 @@ use Rattle.rules.specs.Ask.{requestNumber, reportNumber}
 use Rattle.rules.specs.Check.{verdict}
 use Rattle.rules.specs.Guard.{guarded}
 
+-- the kinds of step, in order: two ask for an event, two are ticks
+abbrev pub requestKind : ℕ
+requestKind = 0
+
+abbrev pub reportKind : ℕ
+reportKind = 1
+
+abbrev pub plainTickKind : ℕ
+plainTickKind = 2
+
+abbrev pub guardedTickKind : ℕ
+guardedTickKind = 3
+
+-- a trace has at most so many steps
+abbrev pub mostSteps : ℕ
+mostSteps = 4096
+
+-- a kind above the last, or a tick with event not 0
+abbrev pub wrongStep : ℕ → ℕ → Bool
+wrongStep kind event = ltb guardedTickKind kind || leb plainTickKind kind && not (eqb event 0)
+
 -- 15, and then what the step's own kind gives
 unfoldable pub stepNumber : Table → Marking → Step → ℕ
 stepNumber t m s =
-    15 if (ltb 3 (s .kind) || leb 2 (s .kind) && not (eqb (s .event) 0))
-    else cond (eqb (s .kind) 0) (requestNumber t m (s .event))
-    (cond (eqb (s .kind) 1) (reportNumber t m (s .event))
-    (cond (eqb (s .kind) 2) (plainTickNumber m) (checkNumber (verdict t m))))
+    15 if wrongStep (s .kind) (s .event)
+    else cond (eqb (s .kind) requestKind) (requestNumber t m (s .event))
+    (cond (eqb (s .kind) reportKind) (reportNumber t m (s .event))
+    (cond (eqb (s .kind) plainTickKind) (plainTickNumber m) (checkNumber (verdict t m))))
 
 -- the marking after a step that is done
 unfoldable pub stepDone : Table → Marking → Step → Marking
-stepDone t m s = cond (leb (s .kind) 1) (effect t m (s .event)) (cond (eqb (s .kind) 2) (time m) (guarded t m))
+stepDone t m s = cond (leb (s .kind) reportKind) (effect t m (s .event)) (cond (eqb (s .kind) plainTickKind) (time m) (guarded t m))
 
 unfoldable pub stepped : Table → Marking → Step → Marking
 stepped t m s = done (stepNumber t m s) (stepDone t m s) m
@@ -44,7 +65,7 @@ answersOf t m (s ∷ rest) = stepNumber t m s ∷ answersOf t (stepped t m s) re
 
 -- the whole trace, for a buffer of so many bytes: 14
 unfoldable pub traceNumber : ℕ → ℕ → ℕ
-traceNumber steps room = 14 if (ltb 4096 steps || ltb room steps)
+traceNumber steps room = 14 if (ltb mostSteps steps || ltb room steps)
 
 abbrev pub runNumber : Table → Marking → List Step → ℕ → ℕ
 runNumber t m steps room = judged t m else traceNumber (length steps) room

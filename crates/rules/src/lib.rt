@@ -36,7 +36,12 @@ pub struct Marking {
     pub events: usize,
 }
 
-// One step of a trace: 0 request, 1 report, 2 plain tick, 3 guarded tick; ticks have event 0.
+// A trace has at most so many steps, an offered list at most so many events.
+pub const MOST_STEPS: usize = 4_096;
+
+pub const LONGEST_LIST: usize = 255;
+
+// One step of a trace, of one of the kinds below; ticks have event 0.
 pub struct Step {
     pub kind: u8,
     pub event: u8,
@@ -153,6 +158,17 @@ impl Marking {
             marking: Marking { records, events },
         }
     }
+}
+
+impl Step {
+    // The kinds.
+    pub const REQUEST: u8 = 0;
+
+    pub const REPORT: u8 = 1;
+
+    pub const PLAIN_TICK: u8 = 2;
+
+    pub const GUARDED_TICK: u8 = 3;
 }
 
 impl MarkingAnswer {

@@ -22,7 +22,7 @@ use Rattle.rules.specs.Ask.{request, report}
 use Rattle.rules.specs.Closure.{closureAnswer}
 use Rattle.rules.specs.Check.{check}
 use Rattle.rules.specs.Guard.{caused, guardedTick}
-use Rattle.rules.specs.Trace.{stepNumber, stepDone, stepped, endOf}
+use Rattle.rules.specs.Trace.{requestKind, reportKind, plainTickKind, guardedTickKind, stepNumber, stepDone, stepped, endOf}
 use Rattle.rules.specs.Laws.Counting.{some-false}
 use Rattle.rules.specs.Laws.EventSet.{has-zero, set-has}
 use Rattle.rules.specs.Demand3.Accepts.{check-parts}
@@ -36,29 +36,29 @@ step kind event = record { kind = kind; event = event }
 pub data Calls (t : Table) : Marking → List Step → Marking → Type 0 where
   none : {m : Marking} → Calls t m [] m
   requested : {m end : Marking} {steps : List Step} (e : ℕ) (answer : MarkingAnswer) → answer ≡ request t m e
-      → Calls t (answer .marking) steps end → Calls t m (step 0 e ∷ steps) end
+      → Calls t (answer .marking) steps end → Calls t m (step requestKind e ∷ steps) end
   reported : {m end : Marking} {steps : List Step} (e : ℕ) (answer : MarkingAnswer) → answer ≡ report t m e
-      → Calls t (answer .marking) steps end → Calls t m (step 1 e ∷ steps) end
+      → Calls t (answer .marking) steps end → Calls t m (step reportKind e ∷ steps) end
   ticked : {m end : Marking} {steps : List Step} (answer : MarkingAnswer) → answer ≡ plainTick t m
-      → Calls t (answer .marking) steps end → Calls t m (step 2 0 ∷ steps) end
+      → Calls t (answer .marking) steps end → Calls t m (step plainTickKind 0 ∷ steps) end
   guardedly : {m end : Marking} {steps : List Step} (answer : GuardedAnswer) → answer ≡ guardedTick t m
-      → Calls t (answer .marking) steps end → Calls t m (step 3 0 ∷ steps) end
+      → Calls t (answer .marking) steps end → Calls t m (step guardedTickKind 0 ∷ steps) end
 
 -- each call, on judged values that the check accepts, is its step
 module _ (t : Table) (m : Marking) (accepted : check t m ≡ Accepts) where
-  request-step : (e : ℕ) → request t m e .marking ≡ stepped t m (step 0 e)
+  request-step : (e : ℕ) → request t m e .marking ≡ stepped t m (step requestKind e)
   unfolding request stepped stepNumber stepDone
   request-step e = rw (check-parts t m accepted .0)
 
-  report-step : (e : ℕ) → report t m e .marking ≡ stepped t m (step 1 e)
+  report-step : (e : ℕ) → report t m e .marking ≡ stepped t m (step reportKind e)
   unfolding report stepped stepNumber stepDone
   report-step e = rw (check-parts t m accepted .0)
 
-  tick-step : plainTick t m .marking ≡ stepped t m (step 2 0)
+  tick-step : plainTick t m .marking ≡ stepped t m (step plainTickKind 0)
   unfolding plainTick stepped stepNumber stepDone
   tick-step = rw (check-parts t m accepted .0)
 
-  guarded-step : guardedTick t m .marking ≡ stepped t m (step 3 0)
+  guarded-step : guardedTick t m .marking ≡ stepped t m (step guardedTickKind 0)
   unfolding guardedTick stepped stepNumber stepDone
   guarded-step = rw (accepted, check-parts t m accepted .1)
 
@@ -79,13 +79,17 @@ module _ (t : Table) where
   unfolding endOf
   calls-end none accepted = refl
   calls-end (requested {m} {end} {steps} e answer is c) accepted =
-      go-on m (answer .marking) end (step 0 e) steps accepted (ap (λ (a : MarkingAnswer). a .marking) is ∙ request-step t m accepted e) (λ a. calls-end c a)
+      go-on m (answer .marking) end (step requestKind e) steps accepted
+      (ap (λ (a : MarkingAnswer). a .marking) is ∙ request-step t m accepted e) (λ a. calls-end c a)
   calls-end (reported {m} {end} {steps} e answer is c) accepted =
-      go-on m (answer .marking) end (step 1 e) steps accepted (ap (λ (a : MarkingAnswer). a .marking) is ∙ report-step t m accepted e) (λ a. calls-end c a)
+      go-on m (answer .marking) end (step reportKind e) steps accepted
+      (ap (λ (a : MarkingAnswer). a .marking) is ∙ report-step t m accepted e) (λ a. calls-end c a)
   calls-end (ticked {m} {end} {steps} answer is c) accepted =
-      go-on m (answer .marking) end (step 2 0) steps accepted (ap (λ (a : MarkingAnswer). a .marking) is ∙ tick-step t m accepted) (λ a. calls-end c a)
+      go-on m (answer .marking) end (step plainTickKind 0) steps accepted
+      (ap (λ (a : MarkingAnswer). a .marking) is ∙ tick-step t m accepted) (λ a. calls-end c a)
   calls-end (guardedly {m} {end} {steps} answer is c) accepted =
-      go-on m (answer .marking) end (step 3 0) steps accepted (ap (λ (a : GuardedAnswer). a .marking) is ∙ guarded-step t m accepted) (λ a. calls-end c a)
+      go-on m (answer .marking) end (step guardedTickKind 0) steps accepted
+      (ap (λ (a : GuardedAnswer). a .marking) is ∙ guarded-step t m accepted) (λ a. calls-end c a)
 
 -- What the caller is answered at the end of a chain.
 pub record Answered (t : Table) (m : Marking) : Type 0 where

@@ -17,7 +17,7 @@ use Rattle.rules.specs.Effect.{isPending, response, effect}
 use Rattle.rules.specs.Time.{isDue, anyDue, time, plainTickNumber}
 use Rattle.rules.specs.Guard.{caused}
 use Rattle.rules.specs.Remedy.{effects}
-use Rattle.rules.specs.Trace.{stepNumber, stepped}
+use Rattle.rules.specs.Trace.{reportKind, plainTickKind, wrongStep, stepNumber, stepped}
 use Rattle.rules.specs.Laws.Tests.{decide, clash, join}
 use Rattle.rules.specs.Laws.Counting.{some-not}
 use Rattle.rules.specs.Laws.Numbers.{both-done, if-done}
@@ -75,10 +75,10 @@ module _ (t : Table) where
   calm-then-pass m (e ∷ l) h = executing (calm-then-pass (effect t m e) l h)
 
 -- a plain tick that is done found no event due
-tick-quiet : (t : Table) (m : Marking) (s : Step) → stepNumber t m s ≡ 0 → s .kind ≡ 2 → anyDue m ≡ false
+tick-quiet : (t : Table) (m : Marking) (s : Step) → stepNumber t m s ≡ 0 → s .kind ≡ plainTickKind → anyDue m ≡ false
 unfolding stepNumber plainTickNumber
 tick-quiet t m s h q =
-    let p = both-done (15 if (ltb 3 (s .kind) || leb 2 (s .kind) && not (eqb (s .event) 0))) _ h in
+    let p = both-done (15 if wrongStep (s .kind) (s .event)) _ h in
     if-done 10 (anyDue m) (rw q at (p .1))
 
 -- Lemma 6 and calm: along any acts the invariant is kept, and the acts of a step let time pass only where no event is due
@@ -91,12 +91,12 @@ module _ (t : Table) (X : ℕ) (st : Static t X) where
 
   step-calm : (m : Marking) → Invariant t X m → (s : Step) → Calm t m (actsOf t m s)
   unfolding actsOf
-  step-calm m v s = go (eqb (stepNumber t m s) 0) (leb (s .kind) 1) (eqb (s .kind) 2) refl refl
+  step-calm m v s = go (eqb (stepNumber t m s) 0) (leb (s .kind) reportKind) (eqb (s .kind) plainTickKind) refl refl
     where
-      go : (d a p : Bool) → eqb (stepNumber t m s) 0 ≡ d → eqb (s .kind) 2 ≡ p
+      go : (d a p : Bool) → eqb (stepNumber t m s) 0 ≡ d → eqb (s .kind) plainTickKind ≡ p
           → Calm t m (cond d (cond a (executes (s .event) ∷ []) (cond p (passes ∷ []) (thenPass (caused t m)))) [])
       go true true p e k = executing ends
-      go true false true e k = passing (tick-quiet t m s (eqb-true (stepNumber t m s) 0 e) (eqb-true (s .kind) 2 k)) ends
+      go true false true e k = passing (tick-quiet t m s (eqb-true (stepNumber t m s) 0 e) (eqb-true (s .kind) plainTickKind k)) ends
       go true false false e k = calm-then-pass t m (caused t m) (caused-calm t X st m v)
       go false a p e k = ends
 

@@ -13,7 +13,7 @@ use Rattle.rules.specs.Effect.{effect}
 use Rattle.rules.specs.Time.{time}
 use Rattle.rules.specs.Guard.{caused, guarded}
 use Rattle.rules.specs.Remedy.{effects}
-use Rattle.rules.specs.Trace.{stepNumber, stepDone, stepped, endOf}
+use Rattle.rules.specs.Trace.{reportKind, plainTickKind, stepNumber, stepDone, stepped, endOf}
 use Rattle.rules.specs.Laws.Taken.{guarded-is}
 
 pub data Act : Type 0 where
@@ -41,7 +41,7 @@ thenPass (e ∷ rest) = executes e ∷ thenPass rest
 unfoldable pub actsOf : Table → Marking → Step → List Act
 actsOf t m s =
     done (stepNumber t m s)
-    (cond (leb (s .kind) 1) (executes (s .event) ∷ []) (cond (eqb (s .kind) 2) (passes ∷ []) (thenPass (caused t m))))
+    (cond (leb (s .kind) reportKind) (executes (s .event) ∷ []) (cond (eqb (s .kind) plainTickKind) (passes ∷ []) (thenPass (caused t m))))
     []
 
 unfoldable pub historyOf : Table → Marking → List Step → List Act
@@ -63,7 +63,7 @@ module _ (t : Table) where
 
   pub after-acts : (m : Marking) (s : Step) → after t m (actsOf t m s) ≡ stepped t m s
   unfolding actsOf stepped stepDone after
-  after-acts m s = go (eqb (stepNumber t m s) 0) (leb (s .kind) 1) (eqb (s .kind) 2)
+  after-acts m s = go (eqb (stepNumber t m s) 0) (leb (s .kind) reportKind) (eqb (s .kind) plainTickKind)
     where
       go : (d a p : Bool) → after t m (cond d (cond a (executes (s .event) ∷ []) (cond p (passes ∷ []) (thenPass (caused t m)))) [])
           ≡ cond d (cond a (effect t m (s .event)) (cond p (time m) (guarded t m))) m

@@ -14,7 +14,8 @@ use Rattle.rules.specs.declared.MarkingAnswer.{MarkingAnswer}
 use Rattle.rules.specs.declared.CheckAnswer.the-variants.{Accepts}
 use Rattle.rules.specs.Numbers.{done}
 use Rattle.rules.specs.Check.{check}
-use Rattle.rules.specs.Trace.{stepNumber, stepped, endOf, answersOf, runNumber, run, runAnswers, stepsIn, bytesNumber, runBytes, runBytesAnswers}
+use Rattle.rules.specs.Trace.{guardedTickKind, stepNumber, stepped, endOf, answersOf, runNumber, run, runAnswers}
+use Rattle.rules.specs.Trace.{stepsIn, bytesNumber, runBytes, runBytesAnswers}
 use Rattle.rules.specs.Laws.Trace.{end-append, answers-length}
 use Rattle.rules.specs.Demand3.Accepts.{check-parts}
 use Rattle.rules.specs.Demand3.Promise.{Promise}
@@ -23,12 +24,12 @@ use Rattle.rules.specs.Demand3.Calls.{Answered, accepted-on, answered-af
 
 module _ (t : Table) where
   -- a guarded tick of the trace is answered 0, wherever it stands
-  guarded-granted : (m : Marking) → check t m ≡ Accepts → stepNumber t m (record { kind = 3; event = 0 }) ≡ 0
+  guarded-granted : (m : Marking) → check t m ≡ Accepts → stepNumber t m (record { kind = guardedTickKind; event = 0 }) ≡ 0
   unfolding stepNumber
   guarded-granted m accepted = rw (check-parts t m accepted .1)
 
   pub guarded-zero : (m : Marking) → check t m ≡ Accepts → (before rest : List Step)
-      → getD (answersOf t m (before ++ (record { kind = 3; event = 0 } ∷ rest))) (length before) 0 ≡ 0
+      → getD (answersOf t m (before ++ (record { kind = guardedTickKind; event = 0 } ∷ rest))) (length before) 0 ≡ 0
   unfolding answersOf
   guarded-zero m accepted [] rest = guarded-granted m accepted
   guarded-zero m accepted (s ∷ before) rest = guarded-zero (stepped t m s) (accepted-on t m accepted s) before rest
@@ -54,12 +55,12 @@ module _ (t : Table) (m : Marking) (accepted : check t m ≡ Accepts) where
 
   -- .. and each guarded tick within the trace was granted, and kept the promise of 2, in the marking that the steps before it led to.
   pub run-grants : (before rest : List Step) (buffer after : List ℕ) (answer : MarkingAnswer)
-      → let steps = before ++ (record { kind = 3; event = 0 } ∷ rest) in
+      → let steps = before ++ (record { kind = guardedTickKind; event = 0 } ∷ rest) in
       answer ≡ run t m steps (length buffer) → answer .number ≡ 0 → after ≡ runAnswers t m steps buffer
       → (getD after (length before) 0 ≡ 0) × Promise t (endOf t m before)
   unfolding run runAnswers
   run-grants before rest buffer after answer is granted written =
-      let steps = before ++ (record { kind = 3; event = 0 } ∷ rest) in
+      let steps = before ++ (record { kind = guardedTickKind; event = 0 } ∷ rest) in
       let number : runNumber t m steps (length buffer) ≡ 0 = sym (ap (λ (a : MarkingAnswer). a .number) is) ∙ granted in
       let full : after ≡ answersOf t m steps ++ drop (length steps) buffer = rw number at written in
       let few : length before < length (answersOf t m steps) = subst (λ (n : ℕ). length before < n) (sym (answers-length t m steps)) (within before rest) in (
@@ -68,6 +69,6 @@ module _ (t : Table) (m : Marking) (accepted : check t m ≡ Accepts) where
         guarded-tick t m accepted before,
       )
     where
-      within : (before rest : List Step) → length before < length (before ++ (record { kind = 3; event = 0 } ∷ rest))
+      within : (before rest : List Step) → length before < length (before ++ (record { kind = guardedTickKind; event = 0 } ∷ rest))
       within [] rest = omega arith
       within (s ∷ before) rest = omega (arith, within before rest)

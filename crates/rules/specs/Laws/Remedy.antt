@@ -20,7 +20,7 @@ use Rattle.rules.specs.Holds.{isCausable}
 use Rattle.rules.specs.Enabled.{isEnabled}
 use Rattle.rules.specs.Effect.{effect}
 use Rattle.rules.specs.Time.{anyDue}
-use Rattle.rules.specs.Remedy.{inTurn, effects, discharges, shortest, remedyNumber, remedy}
+use Rattle.rules.specs.Remedy.{inTurn, effects, discharges, shortest, longestList, remedyNumber, remedy}
 use Rattle.rules.specs.Laws.Counting.{lowest-is, lowest-none, lowest-same, lowest-cases, lowest-le}
 use Rattle.rules.specs.Laws.Tests.{or-right}
 use Rattle.rules.specs.Laws.Numbers.{else-refused}
@@ -123,19 +123,24 @@ module _ (t : Table) (m : Marking) (preferred fallback : List ℕ) where
       rw (else-refused (remedyNumber t m preferred fallback) no, ne-eqb (judged t m) 0 no, e)
 
   module _ (h : judged t m ≡ 0) where
-    pub remedy-first-long : 255 < length preferred → remedy t m preferred fallback ≡ answer 14 false 0
+    pub remedy-first-long : longestList < length preferred → remedy t m preferred fallback ≡ answer 14 false 0
     unfolding remedy remedyNumber
-    remedy-first-long l = rw (h, lt-ltb 255 (length preferred) l)
+    remedy-first-long l = rw (h, lt-ltb longestList (length preferred) l)
 
-    pub remedy-second-long : 255 < length fallback → remedy t m preferred fallback ≡ answer 14 false 0
+    pub remedy-second-long : longestList < length fallback → remedy t m preferred fallback ≡ answer 14 false 0
     unfolding remedy remedyNumber
-    remedy-second-long l = rw (h, lt-ltb 255 (length fallback) l, or-right (ltb 255 (length preferred)) true refl)
+    remedy-second-long l = rw (h, lt-ltb longestList (length fallback) l, or-right (ltb longestList (length preferred)) true refl)
 
-    module _ (short-first : length preferred ≤ 255) (short-second : length fallback ≤ 255) where
+    module _ (short-first : length preferred ≤ longestList) (short-second : length fallback ≤ longestList) where
       pub remedy-first : shortest t m preferred ≤ length preferred → remedy t m preferred fallback ≡ answer 0 false (shortest t m preferred)
       unfolding remedy remedyNumber
       remedy-first l =
-          rw (h, le-ltb 255 (length preferred) short-first, le-ltb 255 (length fallback) short-second, le-leb (shortest t m preferred) (length preferred) l)
+          rw (
+            h,
+            le-ltb longestList (length preferred) short-first,
+            le-ltb longestList (length fallback) short-second,
+            le-leb (shortest t m preferred) (length preferred) l,
+          )
 
       pub remedy-second : length preferred < shortest t m preferred → shortest t m fallback ≤ length fallback
           → remedy t m preferred fallback ≡ answer 0 true (shortest t m fallback)
@@ -143,8 +148,8 @@ module _ (t : Table) (m : Marking) (preferred fallback : List ℕ) where
       remedy-second g l =
           rw (
             h,
-            le-ltb 255 (length preferred) short-first,
-            le-ltb 255 (length fallback) short-second,
+            le-ltb longestList (length preferred) short-first,
+            le-ltb longestList (length fallback) short-second,
             lt-leb (shortest t m preferred) (length preferred) g,
             le-leb (shortest t m fallback) (length fallback) l,
           )
@@ -154,8 +159,8 @@ module _ (t : Table) (m : Marking) (preferred fallback : List ℕ) where
       remedy-none g l =
           rw (
             h,
-            le-ltb 255 (length preferred) short-first,
-            le-ltb 255 (length fallback) short-second,
+            le-ltb longestList (length preferred) short-first,
+            le-ltb longestList (length fallback) short-second,
             lt-leb (shortest t m preferred) (length preferred) g,
             lt-leb (shortest t m fallback) (length fallback) l,
           )

@@ -15,7 +15,7 @@ use Rattle.rules.specs.Numbers.{_if_, _else_, done}
 use Rattle.rules.specs.Fields.{field}
 use Rattle.rules.specs.Judge.{eventsFit, relationsFit, judged}
 use Rattle.rules.specs.Image.{eventsIn, relationsIn, headerSpare, tableLength, tableImageNumber, tableIn, readTable, recordBytes, markingImageNumber, readMarking, markingImage}
-use Rattle.rules.specs.Trace.{traceNumber, stepsIn, endOf, answersOf}
+use Rattle.rules.specs.Trace.{mostSteps, traceNumber, stepsIn, endOf, answersOf}
 use Rattle.rules.specs.Station.{station}
 use Rattle.rules.specs.Laws.Fields.{field-lt}
 use Rattle.rules.specs.Laws.Tests.{decide, both, not-false, neither}
@@ -23,7 +23,7 @@ use Rattle.rules.specs.Laws.Numbers.{if-done, both-done}
 
 -- the longest table, marking and steps that are granted, and an input of them
 abbrev pub longest : ℕ
-longest = 1604 + 512 + 8192
+longest = 1604 + 512 + 2 * mostSteps
 
 -- a field that ends within the first n bytes is one of these bytes
 pub field-take : (image : List ℕ) (n p width : ℕ) → p + width ≤ 8 * n → field (take n image) p width ≡ field image p width
@@ -117,13 +117,13 @@ marking-short events image h =
     let l : events ≤ 64 = leb-true events 64 (few .1) in
     omega arith
 
-steps-short : (steps : ℕ) → (1 if eqb (steps % 2) 1 else traceNumber (steps / 2) (steps / 2)) ≡ 0 → steps ≤ 8192
+steps-short : (steps : ℕ) → (1 if eqb (steps % 2) 1 else traceNumber (steps / 2) (steps / 2)) ≡ 0 → steps ≤ 2 * mostSteps
 unfolding traceNumber
 steps-short steps h =
-    let long = ltb 4096 (steps / 2) in
+    let long = ltb mostSteps (steps / 2) in
     let tight = ltb (steps / 2) (steps / 2) in
     let a = both-done (1 if eqb (steps % 2) 1) _ h in
-    let few = ltb-false 4096 (steps / 2) (neither long tight (if-done 13 (long || tight) (a .1)) .0) in
+    let few = ltb-false mostSteps (steps / 2) (neither long tight (if-done 13 (long || tight) (a .1)) .0) in
     let even = eqb-false (steps % 2) 1 (if-done 0 (eqb (steps % 2) 1) (a .0)) in
     omega (arith, few, even)
 

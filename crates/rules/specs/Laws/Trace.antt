@@ -21,6 +21,7 @@ use Rattle.rules.specs.Time.{time, plainTickNumber}
 use Rattle.rules.specs.Ask.{requestNumber, reportNumber}
 use Rattle.rules.specs.Check.{verdict}
 use Rattle.rules.specs.Guard.{order, goesAhead, taken, takenAll, guarded}
+use Rattle.rules.specs.Trace.{requestKind, reportKind, plainTickKind, guardedTickKind, mostSteps, wrongStep}
 use Rattle.rules.specs.Trace.{stepNumber, stepDone, stepped, endOf, answersOf, traceNumber, stepsIn, bytesNumber, runBytes, runBytesAnswers}
 use Rattle.rules.specs.Laws.Tests.{join, or-left, or-right, neither}
 use Rattle.rules.specs.Laws.Numbers.{if-done, both-done}
@@ -85,7 +86,7 @@ module _ (t : Table) where
 
   pub stepped-judged : (m : Marking) (s : Step) → judged t m ≡ 0 → judged t (stepped t m s) ≡ 0
   unfolding stepped stepDone
-  stepped-judged m s h = go (eqb (stepNumber t m s) 0) (leb (s .kind) 1) (eqb (s .kind) 2)
+  stepped-judged m s h = go (eqb (stepNumber t m s) 0) (leb (s .kind) reportKind) (eqb (s .kind) plainTickKind)
     where
       go : (a b c : Bool) → judged t (cond a (cond b (effect t m (s .event)) (cond c (time m) (guarded t m))) m) ≡ 0
       go true true c = effect-judged t m (s .event) h
@@ -107,30 +108,32 @@ turned t m kind event =
 -- by its kind
 module _ (t : Table) (m : Marking) (event : ℕ) where
   pub turned-ask : (controllable : Bool) → record { number = askNumber controllable t m event; marking = done (askNumber controllable t m event) (effect t m event) m }
-      ≡ turned t m (cond controllable 0 1) event
+      ≡ turned t m (cond controllable requestKind reportKind) event
   unfolding turned stepped stepNumber stepDone askNumber requestNumber reportNumber
   turned-ask true = refl
   turned-ask false = refl
 
   -- a tick has event 0
-  pub turned-tick : event ≡ 0 → record { number = plainTickNumber m; marking = done (plainTickNumber m) (time m) m } ≡ turned t m 2 event
+  pub turned-tick : event ≡ 0 → record { number = plainTickNumber m; marking = done (plainTickNumber m) (time m) m } ≡ turned t m plainTickKind event
   unfolding turned stepped stepNumber stepDone
   turned-tick h = rw h
 
-  pub turned-guarded : event ≡ 0 → record { number = checkNumber (verdict t m); marking = done (checkNumber (verdict t m)) (guarded t m) m } ≡ turned t m 3 event
+  pub turned-guarded : event ≡ 0 → record { number = checkNumber (verdict t m); marking = done (checkNumber (verdict t m)) (guarded t m) m }
+      ≡ turned t m guardedTickKind event
   unfolding turned stepped stepNumber stepDone
   turned-guarded h = rw h
 
-  pub turned-wrong : (kind : ℕ) → (ltb 3 kind || leb 2 kind && not (eqb event 0)) ≡ true → record { number = 15; marking = m } ≡ turned t m kind event
+  pub turned-wrong : (kind : ℕ) → wrongStep kind event ≡ true → record { number = 15; marking = m } ≡ turned t m kind event
   unfolding turned stepped stepNumber
   turned-wrong kind h = rw h
 
--- a kind that is neither 0 nor 1 and has an event, and one above 3
-pub wrong-event : (kind event : ℕ) → (kind ≡ 0 → ⊥) → (kind ≡ 1 → ⊥) → (event ≡ 0 → ⊥) → (ltb 3 kind || leb 2 kind && not (eqb event 0)) ≡ true
-wrong-event kind event a b e = or-right (ltb 3 kind) _ (join (le-leb 2 kind (omega arith)) (ap not (ne-eqb event 0 e)))
+-- a kind that is neither request nor report and has an event, and one that is none of the four
+pub wrong-event : (kind event : ℕ) → (kind ≡ requestKind → ⊥) → (kind ≡ reportKind → ⊥) → (event ≡ 0 → ⊥) → wrongStep kind event ≡ true
+wrong-event kind event a b e = or-right (ltb guardedTickKind kind) _ (join (le-leb plainTickKind kind (omega arith)) (ap not (ne-eqb event 0 e)))
 
-pub wrong-kind : (kind event : ℕ) → (kind ≡ 0 → ⊥) → (kind ≡ 1 → ⊥) → (kind ≡ 2 → ⊥) → (kind ≡ 3 → ⊥) → (ltb 3 kind || leb 2 kind && not (eqb event 0)) ≡ true
-wrong-kind kind event a b c d = or-left (ltb 3 kind) _ (lt-ltb 3 kind (omega arith))
+pub wrong-kind : (kind event : ℕ) → (kind ≡ requestKind → ⊥) → (kind ≡ reportKind → ⊥) → (kind ≡ plainTickKind → ⊥) → (kind ≡ guardedTickKind → ⊥)
+    → wrongStep kind event ≡ true
+wrong-kind kind event a b c d = or-left (ltb guardedTickKind kind) _ (lt-ltb guardedTickKind kind (omega arith))
 
 -- Bytes as steps
 abbrev pub noStep : Step
@@ -211,7 +214,7 @@ module _ (t : Table) (m : Marking) (bytes buffer : List ℕ) where
   pub bytes-granted : bytesNumber t m bytes (length buffer) ≡ 0 → (judged t m ≡ 0) × (length bytes / 2 ≤ length buffer)
   unfolding traceNumber
   bytes-granted h =
-      let long = ltb 4096 (length bytes / 2) in
+      let long = ltb mostSteps (length bytes / 2) in
       let tight = ltb (length buffer) (length bytes / 2) in
       let p = both-done (judged t m) _ h in
       let q = both-done (1 if eqb (length bytes % 2) 1) _ (p .1) in
