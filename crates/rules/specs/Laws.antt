@@ -22,3 +22,4 @@ pub mod Turns
 pub mod Remedy
 pub mod Trace
 pub mod Station
+pub mod Never

@@ -1,7 +1,7 @@
 -- A trace: running one and then another is running both, refused steps leave the marking, and judged values stay judged. With what a loop
 -- knows after i steps. Assumes nothing.
 use mathlib.Core.Path.{_≡_, refl, _∙_, ap, sym, subst}
-use mathlib.Core.Bool.{Bool, true, false, not, _&&_, _||_, cond}
+use mathlib.Core.Bool.{Bool, true, false, not, _||_, cond}
 use mathlib.Core.List.{List, [], _∷_, _++_}
 use Prim.Native.Nat.{ℕ, suc, _<_, _≤_, _+_, _*_, _/_, _%_}
 use native.Mathlib.Numerals.{add-one}

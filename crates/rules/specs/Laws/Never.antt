@@ -1,0 +1,259 @@
+-- Numbers that are never given. What holds of each of the given numbers holds of the number of every public call, of each answer byte of the
+-- runner and of the station, and of the one byte that the station writes in a refusal; so a number that is not among them is given by none.
+-- Over the number: from `number if test`, `first else next` and `firstOf`. Assumes nothing.
+use mathlib.Core.Path.{_≡_, refl, _∙_, ap, sym, subst}
+use mathlib.Core.Bool.{Bool, true, false, cond}
+use mathlib.Core.List.{List, [], _∷_, _++_}
+use Prim.Native.Nat.{ℕ, zero, suc, _<_, _/_}
+use native.Mathlib.Omega.{arith}
+use lib.Dec.{eqb, leb}
+use lib.ListN.{length, getD, List·getD-append}
+use borrow.Author.Tests.{lt-leb}
+use Rattle.rules.specs.declared.Relation.{Relation}
+use Rattle.rules.specs.declared.Table.{Table}
+use Rattle.rules.specs.declared.Marking.{Marking}
+use Rattle.rules.specs.declared.Step.{Step}
+use Rattle.rules.specs.Numbers.{_if_, _else_, firstOf, marginNumber, holdUpNumber, checkNumber}
+use Rattle.rules.specs.Fields.{bytesOf}
+use Rattle.rules.specs.Judge.{relationNumber, tableNumber, markingNumber, markingNumberFor, judged}
+use Rattle.rules.specs.Image.{relationImageNumber, tableImageNumber, readTable, markingImageNumber, readMarking, writeNumber, fresh}
+use Rattle.rules.specs.Image.{eventsIn, recordImage, recordImages, markingImage}
+use Rattle.rules.specs.Enabled.{enabledAnswer}
+use Rattle.rules.specs.Time.{dueAnswer, plainTickNumber, plainTick}
+use Rattle.rules.specs.Ask.{requestNumber, reportNumber, request, report}
+use Rattle.rules.specs.Margin.{marginOf, margin}
+use Rattle.rules.specs.HoldUp.{holdUpOf, holdUp}
+use Rattle.rules.specs.Closure.{closureAnswer}
+use Rattle.rules.specs.Check.{verdict, check}
+use Rattle.rules.specs.Guard.{guardedTick}
+use Rattle.rules.specs.Remedy.{remedyNumber, remedy}
+use Rattle.rules.specs.Trace.{stepNumber, stepped, endOf, answersOf, traceNumber, run, runAnswers, stepsIn, runBytes, runBytesAnswers}
+use Rattle.rules.specs.Station.{station}
+use Rattle.rules.specs.Laws.Tests.{clash}
+use Rattle.rules.specs.Laws.Trace.{answers-length, steps-length}
+use Rattle.rules.specs.Laws.Station.{tablePart, markingPart, stepsPart, stationNumber, numberOf, station-is}
+
+-- the numbers that a call may give: 0 for 'done', and 1 to 15
+abbrev pub given : ℕ → Bool
+given n = leb n 15
+
+-- P holds of every number that a public call gives
+pub record EveryCall (P : ℕ → Type 0) : Type 0 where
+  -- the image reader
+  pub of-read-table : (image : List ℕ) → P (readTable image .number)
+  pub of-read-marking : (events : ℕ) (image : List ℕ) → P (readMarking events image .number)
+  pub of-write-marking : (m : Marking) (room : ℕ) → P (writeNumber m room)
+  pub of-fresh : (events : ℕ) → P (fresh events .number)
+  pub of-judge-table : (t : Table) → P (tableNumber t)
+  pub of-judge-marking : (events : ℕ) (m : Marking) → P (markingNumberFor events m)
+  -- the engine
+  pub of-enabled : (t : Table) (m : Marking) (e : ℕ) → P (enabledAnswer t m e .number)
+  pub of-due : (t : Table) (m : Marking) → P (dueAnswer t m .number)
+  pub of-request : (t : Table) (m : Marking) (e : ℕ) → P (request t m e .number)
+  pub of-report : (t : Table) (m : Marking) (e : ℕ) → P (report t m e .number)
+  pub of-plain-tick : (t : Table) (m : Marking) → P (plainTick t m .number)
+  pub of-margin : (t : Table) (m : Marking) (k : ℕ) → P (marginNumber (margin t m k))
+  pub of-hold-up : (t : Table) (m : Marking) (e : ℕ) → P (holdUpNumber (holdUp t m e))
+  pub of-closure : (t : Table) (m : Marking) → P (closureAnswer t m .number)
+  pub of-check : (t : Table) (m : Marking) → P (checkNumber (check t m))
+  pub of-guarded-tick : (t : Table) (m : Marking) → P (guardedTick t m .number)
+  pub of-remedies : (t : Table) (m : Marking) (preferred fallback : List ℕ) → P (remedy t m preferred fallback .number)
+  -- the runner: its number, and each answer byte of a trace that is granted
+  pub of-run : (t : Table) (m : Marking) (steps : List Step) (room : ℕ) → P (run t m steps room .number)
+  pub of-run-answers : (t : Table) (m : Marking) (steps : List Step) (buffer : List ℕ) → run t m steps (length buffer) .number ≡ 0
+      → (i : ℕ) → i < length steps → P (getD (runAnswers t m steps buffer) i 0)
+  pub of-run-bytes : (t : Table) (m : Marking) (bytes : List ℕ) (room : ℕ) → P (runBytes t m bytes room .number)
+  pub of-run-bytes-answers : (t : Table) (m : Marking) (bytes buffer : List ℕ) → runBytes t m bytes (length buffer) .number ≡ 0
+      → (i : ℕ) → i < length bytes / 2 → P (getD (runBytesAnswers t m bytes buffer) i 0)
+  -- the station: the one byte of a refusal, and each answer byte
+  pub of-station : (input : List ℕ) (byte : ℕ) → station input ≡ byte ∷ [] → P byte
+  pub of-station-answers : (input : List ℕ) (i : ℕ) → i < length (stepsPart input) / 2 → P (getD (station input) i 0)
+
+-- a marking image is not one byte
+no-byte : (m : Marking) (at n byte : ℕ) → recordImages m at n ≡ byte ∷ [] → ⊥
+unfolding recordImages recordImage bytesOf
+no-byte m at zero byte e = omega (arith, ap length e)
+no-byte m at (suc n) byte e = omega (arith, ap length e)
+
+module _ (P : ℕ → Type 0) (each : (number : ℕ) → given number ≡ true → P number) where
+  pub if-given : (number : ℕ) (test : Bool) → given number ≡ true → P (number if test)
+  if-given number true g = each number g
+  if-given number false g = each 0 refl
+
+  pub else-given : (first next : ℕ) → P first → P next → P (first else next)
+  else-given zero next p q = q
+  else-given (suc first) next p q = p
+
+  pub first-given : (f : ℕ → ℕ) (n : ℕ) → ((i : ℕ) → P (f i)) → P (firstOf n f)
+  unfolding firstOf
+  first-given f zero h = each 0 refl
+  first-given f (suc n) h = else-given (firstOf n f) (f n) (first-given f n h) (h n)
+
+  -- of an answer that is one of two, told by a test
+  pub cond-given : {A : Type 0} (f : A → ℕ) (test : Bool) (a b : A) → P (f a) → P (f b) → P (f (cond test a b))
+  cond-given f true a b p q = p
+  cond-given f false a b p q = q
+
+  -- judging
+  relation-given : (events : ℕ) (k : Relation) → P (relationNumber events k)
+  unfolding relationNumber
+  relation-given events k = search (if-given, else-given) depth 8
+
+  table-given : (t : Table) → P (tableNumber t)
+  unfolding tableNumber
+  table-given t = search (if-given, else-given, first-given, relation-given) depth 8
+
+  marking-given : (m : Marking) → P (markingNumber m)
+  unfolding markingNumber
+  marking-given m = search (if-given, else-given, first-given) depth 8
+
+  marking-for-given : (events : ℕ) (m : Marking) → P (markingNumberFor events m)
+  unfolding markingNumberFor
+  marking-for-given events m = search (if-given, else-given, marking-given) depth 8
+
+  judged-given : (t : Table) (m : Marking) → P (judged t m)
+  unfolding judged
+  judged-given t m = search (else-given, table-given, marking-for-given) depth 8
+
+  -- images
+  relation-image-given : (image : List ℕ) (events p : ℕ) → P (relationImageNumber image events p)
+  unfolding relationImageNumber
+  relation-image-given image events p = search (if-given, else-given, relation-given) depth 8
+
+  table-image-given : (image : List ℕ) → P (tableImageNumber image)
+  unfolding tableImageNumber
+  table-image-given image = search (if-given, else-given, first-given, relation-image-given) depth 12
+
+  marking-image-given : (events : ℕ) (image : List ℕ) → P (markingImageNumber events image)
+  unfolding markingImageNumber
+  marking-image-given events image = search (if-given, else-given, first-given) depth 8
+
+  -- the calls' own numbers
+  request-given : (t : Table) (m : Marking) (e : ℕ) → P (requestNumber t m e)
+  unfolding requestNumber
+  request-given t m e = search (if-given, else-given) depth 8
+
+  report-given : (t : Table) (m : Marking) (e : ℕ) → P (reportNumber t m e)
+  unfolding reportNumber
+  report-given t m e = search (if-given, else-given) depth 8
+
+  plain-tick-given : (m : Marking) → P (plainTickNumber m)
+  unfolding plainTickNumber
+  plain-tick-given m = search if-given
+
+  verdict-given : (t : Table) (m : Marking) → P (checkNumber (verdict t m))
+  unfolding verdict
+  verdict-given t m = search (cond-given checkNumber, each) depth 10
+
+  remedy-given : (t : Table) (m : Marking) (preferred fallback : List ℕ) → P (remedyNumber t m preferred fallback)
+  unfolding remedyNumber
+  remedy-given t m preferred fallback = search (if-given, else-given) depth 8
+
+  trace-given : (steps room : ℕ) → P (traceNumber steps room)
+  unfolding traceNumber
+  trace-given steps room = search if-given
+
+  step-given : (t : Table) (m : Marking) (s : Step) → P (stepNumber t m s)
+  unfolding stepNumber
+  step-given t m s = search (if-given, else-given, cond-given (λ (n : ℕ). n), request-given, report-given, plain-tick-given, verdict-given) depth 8
+
+  answers-given : (t : Table) (m : Marking) (steps : List Step) (i : ℕ) → P (getD (answersOf t m steps) i 0)
+  unfolding answersOf
+  answers-given t m [] i = each 0 refl
+  answers-given t m (s ∷ rest) zero = step-given t m s
+  answers-given t m (s ∷ rest) (suc i) = answers-given t (stepped t m s) rest i
+
+  -- the answers that are enums
+  margin-given : (t : Table) (m : Marking) (k : ℕ) → P (marginNumber (margin t m k))
+  unfolding margin marginOf
+  margin-given t m k = search (if-given, else-given, cond-given marginNumber, each, judged-given) depth 10
+
+  hold-up-given : (t : Table) (m : Marking) (e : ℕ) → P (holdUpNumber (holdUp t m e))
+  unfolding holdUp holdUpOf
+  hold-up-given t m e = search (if-given, else-given, cond-given holdUpNumber, each, judged-given) depth 10
+
+  check-given : (t : Table) (m : Marking) → P (checkNumber (check t m))
+  unfolding check
+  check-given t m = search (cond-given checkNumber, judged-given, verdict-given) depth 10
+
+  -- answer bytes stand before what the buffer held
+  written-given : (t : Table) (m : Marking) (steps : List Step) (behind : List ℕ) (i : ℕ) → i < length steps → P (getD (answersOf t m steps ++ behind) i 0)
+  written-given t m steps behind i b =
+      subst P (sym (List·getD-append (answersOf t m steps) behind 0 i (rw (answers-length t m steps) b))) (answers-given t m steps i)
+
+  -- the station: the number of an input; the one byte that is written; the bytes at the steps' places
+  input-given : (input : List ℕ) → P (stationNumber input)
+  unfolding numberOf readTable readMarking
+  input-given input = search (if-given, else-given, table-image-given, marking-image-given, judged-given, trace-given) depth 8
+
+  one-byte-given : (t : Table) (m : Marking) (steps : List Step) (end : Marking) (byte : ℕ) → answersOf t m steps ++ markingImage end ≡ byte ∷ [] → P byte
+  unfolding answersOf
+  one-byte-given t m [] end byte e = absurd (no-byte end 0 (end .events) byte e)
+  one-byte-given t m (s ∷ rest) end byte e = subst P (ap (λ (l : List ℕ). getD l 0 0) e) (step-given t m s)
+
+  module _ (input : List ℕ) where
+    abbrev t : Table
+    t = readTable (tablePart input) .table
+
+    abbrev m : Marking
+    m = readMarking (eventsIn input) (markingPart input) .marking
+
+    abbrev steps : List Step
+    steps = stepsIn (stepsPart input)
+
+    abbrev written : Bool → List ℕ
+    written granted = cond granted (answersOf t m steps ++ markingImage (endOf t m steps)) (stationNumber input ∷ [])
+
+    station-given : (byte : ℕ) → station input ≡ byte ∷ [] → P byte
+    station-given byte e = go (eqb (stationNumber input) 0) (sym (station-is input) ∙ e)
+      where
+        go : (granted : Bool) → written granted ≡ byte ∷ [] → P byte
+        go true e = one-byte-given t m steps (endOf t m steps) byte e
+        go false e = subst P (ap (λ (l : List ℕ). getD l 0 0) e) (input-given input)
+
+    station-answers-given : (i : ℕ) → i < length (stepsPart input) / 2 → P (getD (station input) i 0)
+    station-answers-given i b = subst (λ (l : List ℕ). P (getD l i 0)) (sym (station-is input)) (go (eqb (stationNumber input) 0) i b)
+      where
+        go : (granted : Bool) (i : ℕ) → i < length (stepsPart input) / 2 → P (getD (written granted) i 0)
+        go true i b = written-given t m steps _ i (rw (steps-length (stepsPart input)) b)
+        go false zero b = input-given input
+        go false (suc i) b = each 0 refl
+
+  pub every-call : EveryCall P
+  unfolding readTable readMarking writeNumber fresh enabledAnswer dueAnswer request report plainTick closureAnswer guardedTick remedy run runAnswers runBytes runBytesAnswers
+  every-call = record {
+    of-read-table = table-image-given;
+    of-read-marking = marking-image-given;
+    of-write-marking = λ m room. search (if-given, else-given, marking-given);
+    of-fresh = λ events. search if-given;
+    of-judge-table = table-given;
+    of-judge-marking = marking-for-given;
+    of-enabled = λ t m e. search (if-given, else-given, judged-given);
+    of-due = judged-given;
+    of-request = λ t m e. search (else-given, judged-given, request-given);
+    of-report = λ t m e. search (else-given, judged-given, report-given);
+    of-plain-tick = λ t m. search (else-given, judged-given, plain-tick-given);
+    of-margin = margin-given;
+    of-hold-up = hold-up-given;
+    of-closure = judged-given;
+    of-check = check-given;
+    of-guarded-tick = check-given;
+    of-remedies = λ t m preferred fallback. search (else-given, judged-given, remedy-given);
+    of-run = λ t m steps room. search (else-given, judged-given, trace-given);
+    of-run-answers = λ t m steps buffer granted i b. rw granted (written-given t m steps _ i b);
+    of-run-bytes = λ t m bytes room. search (if-given, else-given, judged-given, trace-given);
+    of-run-bytes-answers = λ t m bytes buffer granted i b. rw granted (written-given t m (stepsIn bytes) _ i (rw (steps-length bytes) b));
+    of-station = station-given;
+    of-station-answers = station-answers-given;
+  }
+
+-- n is given by no call
+abbrev pub Never : ℕ → Type 0
+Never n = EveryCall (λ number. number ≡ n → ⊥)
+
+pub never : (n : ℕ) → given n ≡ false → Never n
+never n none = every-call (λ number. number ≡ n → ⊥) (λ number g e. clash g (rw e none))
+
+-- no call gives a number above 15
+pub never-above : (n : ℕ) → 15 < n → Never n
+never-above n above = never n (lt-leb n 15 above)
