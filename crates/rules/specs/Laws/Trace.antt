@@ -22,7 +22,7 @@ use Rattle.rules.specs.Time.{time, plainTickNumber}
 use Rattle.rules.specs.Ask.{requestNumber, reportNumber}
 use Rattle.rules.specs.Check.{verdict}
 use Rattle.rules.specs.Guard.{order, taken, takenAll, guarded}
-use Rattle.rules.specs.Trace.{stepNumber, stepDone, stepped, endOf, answersOf, traceNumber, stepsIn, bytesNumber, runBytes, runBytesAnswers}
+use Rattle.rules.specs.Trace.{mostSteps, stepNumber, stepDone, stepped, endOf, answersOf, traceNumber, stepsIn, bytesNumber, runBytes, runBytesAnswers}
 use Rattle.rules.specs.Laws.Tests.{join, or-left, or-right, neither}
 use Rattle.rules.specs.Laws.Numbers.{if-done, both-done}
 use Rattle.rules.specs.Laws.Counting.{length-places, places-at}
@@ -212,7 +212,7 @@ module _ (t : Table) (m : Marking) (bytes buffer : List ℕ) where
   pub bytes-granted : bytesNumber t m bytes (length buffer) ≡ 0 → (judged t m ≡ 0) × (length bytes / 2 ≤ length buffer)
   unfolding traceNumber
   bytes-granted h =
-      let long = ltb 4096 (length bytes / 2) in
+      let long = ltb mostSteps (length bytes / 2) in
       let tight = ltb (length buffer) (length bytes / 2) in
       let p = both-done (judged t m) _ h in
       let q = both-done (1 if eqb (length bytes % 2) 1) _ (p .1) in
