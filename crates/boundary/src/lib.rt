@@ -39,7 +39,7 @@ pub extern "C" fn duty_judge(table: &[u8], marking: &[u8]) -> u8
     images::read(table, marking).number
 }
 
-// A fresh marking, into the first 8 bytes per event of the buffer.
+// A fresh marking's image, into the first bytes of the buffer.
 #[no_mangle]
 pub extern "C" fn duty_fresh(events: usize, marking: &mut [u8]) -> u8
     ensures number { λ r. ⌜ r ≡ (fresh events .number else 14 if ltb (length (now (marking .entry))) (recordBytes * events)) ⌝ }

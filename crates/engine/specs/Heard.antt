@@ -11,13 +11,13 @@ use Rattle.rules.specs.declared.Marking.{Marking}
 use Rattle.rules.specs.Numbers.{_if_, _else_, done}
 use Rattle.rules.specs.Judge.{judged}
 use Rattle.rules.specs.Image.{recordBytes, readMarking, markingImage}
-use Rattle.rules.specs.Trace.{traceNumber, stepsIn, endOf, answersOf}
+use Rattle.rules.specs.Trace.{mostSteps, traceNumber, stepsIn, endOf, answersOf}
 use Rattle.rules.specs.Station.{station}
-use Rattle.rules.specs.Laws.Station.{longest}
+use Rattle.rules.specs.Laws.Station.{longestMarking, longest}
 
--- the longest output: an answer byte for each of 4,096 steps, and 64 records
+-- the longest output: an answer byte for each step, and the end marking
 abbrev pub longestOutput : ℕ
-longestOutput = 4096 + 512
+longestOutput = mostSteps + longestMarking
 
 -- the bytes are put at the start of what was before, and counted
 pub record Told (bytes before : List ℕ) (count : ℕ) (after : List ℕ) : Type 0 where

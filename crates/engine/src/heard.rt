@@ -3,6 +3,7 @@ use super::judge::judge;
 use super::trace::bytes_number;
 use super::trace::played;
 use rules::Marking;
+use rules::Step;
 use rules::Table;
 ghost use mathlib.Core.Path.{_≡_};
 ghost use mathlib.Core.Logic.{_⊎_};
@@ -10,9 +11,25 @@ ghost use Prim.Native.Nat.{_+_, _%_, _≤_, min};
 ghost use lib.Dec.{eqb};
 ghost use lib.ListN.{length};
 ghost use Rattle.rules.specs.Numbers.{_if_, _else_};
+ghost use Rattle.rules.specs.Holds.{mostEvents};
 ghost use Rattle.rules.specs.Judge.{judged};
-ghost use Rattle.rules.specs.Laws.Station.{tableBytes};
-ghost use Rattle.engine.specs.Heard.{Told, misused, afterTable, afterMarking};
+ghost use Rattle.rules.specs.Laws.Station.{longestMarking, longestSteps, tableBytes};
+ghost use Rattle.engine.specs.Heard.{longestOutput, Told, misused, afterTable, afterMarking};
+
+// The longest table that is granted, in bytes.
+const TABLE: usize = 4 + Table::MOST_EVENTS + 6 * Table::MOST_RELATIONS;
+
+// The longest marking.
+const MARKING: usize = Marking::RECORD_BYTES * Table::MOST_EVENTS;
+
+// The longest steps.
+const STEPS: usize = 2 * Step::MOST;
+
+// The longest input: the three together.
+pub const LONGEST_INPUT: usize = TABLE + MARKING + STEPS;
+
+// The longest output: an answer byte for each step, and the end marking.
+pub const LONGEST_OUTPUT: usize = Step::MOST + MARKING;
 
 fn least(a: usize, b: usize) -> usize
     ensures { λ r. ⌜ r ≡ min a b ⌝ }
@@ -24,13 +41,13 @@ fn least(a: usize, b: usize) -> usize
 pub fn misused(kept: usize, beyond: usize, room: usize) -> bool
     ensures { λ r. ⌜ r ≡ misused kept beyond room ⌝ }
 {
-    if room < 4608 {
+    if room < LONGEST_OUTPUT {
         return true;
     }
     if beyond == 0 {
         return false;
     }
-    kept < 10308
+    kept < LONGEST_INPUT
 }
 
 // How many bytes of the input the table has: as many as its header says, if they are there.
@@ -61,8 +78,8 @@ fn long_number(t: Table, m: Marking, kept: usize, beyond: usize) -> u8
 
 // The steps are played, and the end marking is written behind their answers.
 fn after_marking(t: Table, m: Marking, steps: &[u8], beyond: usize, output: &mut [u8]) -> usize
-    requires { ⌜ 4608 ≤ length (now output) ⌝ }
-    requires { ⌜ (beyond ≡ 0) ⊎ (8192 ≤ length (now steps)) ⌝ }
+    requires { ⌜ longestOutput ≤ length (now output) ⌝ }
+    requires { ⌜ (beyond ≡ 0) ⊎ (longestSteps ≤ length (now steps)) ⌝ }
     ensures { λ r. ⌜ Told (afterMarking t m (now (steps .entry)) beyond) (now (output .entry)) r (now (output .exit)) ⌝ }
 {
     if beyond != 0 {
@@ -77,17 +94,17 @@ fn after_marking(t: Table, m: Marking, steps: &[u8], beyond: usize, output: &mut
     }
     let after = played(t, m, steps, output);
     image::write_marking(after, &mut output[count..]);
-    count + 8 * t.events
+    count + Marking::RECORD_BYTES * t.events
 }
 
 // The marking is read, and the steps behind it are played.
 pub fn after_table(t: Table, rest: &[u8], beyond: usize, output: &mut [u8]) -> usize
-    requires { ⌜ t .events ≤ 64 ⌝ }
-    requires { ⌜ 4608 ≤ length (now output) ⌝ }
-    requires { ⌜ (beyond ≡ 0) ⊎ (8704 ≤ length (now rest)) ⌝ }
+    requires { ⌜ t .events ≤ mostEvents ⌝ }
+    requires { ⌜ longestOutput ≤ length (now output) ⌝ }
+    requires { ⌜ (beyond ≡ 0) ⊎ (longestMarking + longestSteps ≤ length (now rest)) ⌝ }
     ensures { λ r. ⌜ Told (afterTable t (now (rest .entry)) beyond) (now (output .entry)) r (now (output .exit)) ⌝ }
 {
-    let size = least(8 * t.events, rest.len());
+    let size = least(Marking::RECORD_BYTES * t.events, rest.len());
     let read = image::read_marking(t.events, &rest[..size]);
     if read.number != 0 {
         output[0] = read.number;

@@ -257,6 +257,12 @@ pub fn run(t: Table, m: Marking, steps: &[Step], answers: &mut [u8]) -> MarkingA
     trace::ended(state)
 }
 
+// What the station program keeps of its input: as much as the longest has that is granted.
+pub const LONGEST_INPUT: usize = heard::LONGEST_INPUT;
+
+// What it lends for the output.
+pub const LONGEST_OUTPUT: usize = heard::LONGEST_OUTPUT;
+
 // What the station program writes for its whole input, of which the first bytes are kept and so many came after them. It is written to the
 // start of the output; the answer is how many bytes that are. See specs/Heard for what is asked of a caller.
 pub fn station(input: &[u8], beyond: usize, output: &mut [u8]) -> usize

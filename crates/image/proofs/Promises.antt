@@ -13,7 +13,7 @@ use Rattle.rules.specs.declared.MarkingAnswer.{MarkingAnswer}
 use Rattle.rules.specs.declared.TableAnswer.{TableAnswer}
 use Rattle.rules.specs.Holds.{recordOf}
 use Rattle.rules.specs.Judge.{tableNumber, markingNumberFor}
-use Rattle.rules.specs.Image.{markingFrom, readMarking, writeNumber, writeMarking}
+use Rattle.rules.specs.Image.{recordBytes, markingFrom, readMarking, writeNumber, writeMarking}
 use Rattle.image.specs.Theorems.{read-table-accepted, read-marking-accepted, fresh-accepted, written-is-read, read-is-written}
 use Rattle.rules.proofs.Marking.fresh.Kinds as fresh-kinds
 use Rattle.rules.proofs.Marking.fresh.Reads as fresh
@@ -120,20 +120,20 @@ fresh-marking-accepted make judge done events same =
 
 -- Reading what was written gives the marking back, with event places past the count 0.
 pub written-then-read : (write : WritesMarking) (read : ReadsMarking) → write .answer ≡ 0
-    → read .given .0 ≡ write .given .0 .events → read .given .1 .0 .now ≡ take (8 * write .given .0 .events) (write .left .1 .0 .now)
+    → read .given .0 ≡ write .given .0 .events → read .given .1 .0 .now ≡ take (recordBytes * write .given .0 .events) (write .left .1 .0 .now)
     → read .answer ≡ record { number = 0; marking = markingFrom (write .given .0 .events) (recordOf (write .given .0)) }
 written-then-read write read done events bytes =
     let m = write .given .0 in
     let buffer = write .given .1 .0 .now in
     read .kept
-    ∙ ap₂ readMarking events (bytes ∙ ap (take (8 * m .events)) (write .kept .1))
+    ∙ ap₂ readMarking events (bytes ∙ ap (take (recordBytes * m .events)) (write .kept .1))
     ∙ written-is-read m buffer (sym (write .kept .0) ∙ done)
 
 -- Writing what was read gives the same bytes, and later bytes stay. That each place of a slice is a byte is a fact of its type.
 pub read-then-written : (read : ReadsMarking) (write : WritesMarking) → read .answer .number ≡ 0
     → ((i : ℕ) → getD (read .given .1 .0 .now) i 0 < 256)
-    → write .given .0 ≡ read .answer .marking → 8 * read .given .0 ≤ length (write .given .1 .0 .now)
-    → (write .answer ≡ 0) × (write .left .1 .0 .now ≡ read .given .1 .0 .now ++ drop (8 * read .given .0) (write .given .1 .0 .now))
+    → write .given .0 ≡ read .answer .marking → recordBytes * read .given .0 ≤ length (write .given .1 .0 .now)
+    → (write .answer ≡ 0) × (write .left .1 .0 .now ≡ read .given .1 .0 .now ++ drop (recordBytes * read .given .0) (write .given .1 .0 .now))
 read-then-written read write done bytes same long =
     let events = read .given .0 in
     let image = read .given .1 .0 .now in

@@ -9,7 +9,7 @@ use Rattle.rules.specs.declared.MarkingAnswer.{MarkingAnswer}
 use Rattle.rules.specs.Counting.{places}
 use Rattle.rules.specs.Numbers.{_if_, firstOf, done}
 use Rattle.rules.specs.EventSet.{setOf}
-use Rattle.rules.specs.Holds.{emptyRelation, emptyTable, emptyMarking}
+use Rattle.rules.specs.Holds.{mostRelations, emptyRelation, emptyTable, emptyMarking}
 use Rattle.rules.specs.Fields.{flag}
 use Rattle.rules.specs.Judge.{recordNumber}
 use Rattle.rules.specs.Image.{recordAt, recordBit, markingFrom, classBit, classSpare, relationAt, relationBit, relationImageNumber}
@@ -48,7 +48,7 @@ relationsRead image events count controllable causable =
       number = number;
       table = done number
           (record {
-            relations = places count (λ k. relationAt image (relationBit events k)) ++ replicate (256 - count) emptyRelation;
+            relations = places count (λ k. relationAt image (relationBit events k)) ++ replicate (mostRelations - count) emptyRelation;
             controllable = controllable;
             causable = causable;
             events = events;

@@ -12,13 +12,13 @@ use Rattle.rules.specs.declared.Marking.{Marking}
 use Rattle.rules.specs.declared.Record.{Record}
 use Rattle.rules.specs.Counting.{places}
 use Rattle.rules.specs.Numbers.{_if_, firstOf}
-use Rattle.rules.specs.Holds.{recordOf, relationOf, emptyRecord, emptyRelation}
+use Rattle.rules.specs.Holds.{mostEvents, mostRelations, recordOf, relationOf, emptyRecord, emptyRelation}
 use Rattle.rules.specs.Judge.{eventsFit, relationsFit, relationNumber, recordFits, markingNumber, markingNumberFor, tableNumber}
-use Rattle.rules.specs.Image.{eventsIn, relationsIn, headerSpare, tableLength, relationAt, relationBit, relationSpare, relationImageNumber, tableImageNumber, tableIn, readTable, markingFrom, markingImage, recordAt, recordBit, readMarking, writeNumber, writeMarking, fresh, freshRecord}
+use Rattle.rules.specs.Image.{eventsIn, relationsIn, headerSpare, tableLength, relationAt, relationBit, relationSpare, relationImageNumber, tableImageNumber, tableIn, readTable, markingFrom, recordBytes, markingImage, recordAt, recordBit, readMarking, writeNumber, writeMarking, fresh, freshRecord}
 use Rattle.rules.specs.Laws.Counting.{length-places, places-at}
 use Rattle.rules.specs.Laws.Numbers.{if-done, both-done, first-each, first-done}
 use Rattle.image.specs.Parts.{classNumber}
-use Rattle.image.specs.Laws.Records.{images-length}
+use Rattle.image.specs.Laws.Records.{image-length}
 use Rattle.image.specs.Laws.Written.{number-done, bytes-kept, bytes-written}
 use Rattle.image.specs.Laws.Round.{places-same, from-done, from-done-for, readable, readable-number, reads-as, images-back, record-again, image-readable}
 
@@ -50,7 +50,7 @@ read-table-accepted image h = rw h (accepted h)
 
     kept : (k : ℕ) → k < count → relationOf (tableIn image) k ≡ relationAt image (relationBit n k)
     kept k l =
-        List·getD-append (places count (λ j. relationAt image (relationBit n j))) (replicate (256 - count) emptyRelation) emptyRelation k
+        List·getD-append (places count (λ j. relationAt image (relationBit n j))) (replicate (mostRelations - count) emptyRelation) emptyRelation k
         (rw (length-places (λ j. relationAt image (relationBit n j)) count) l)
         ∙ places-at (λ j. relationAt image (relationBit n j)) count k emptyRelation l
 
@@ -70,41 +70,43 @@ read-table-accepted image h = rw h (accepted h)
 
 -- Reading what was written gives the marking back, with event places past the count 0.
 pub written-is-read : (m : Marking) (buffer : List ℕ) → writeNumber m (length buffer) ≡ 0
-    → readMarking (m .events) (take (8 * m .events) (writeMarking m buffer)) ≡ record { number = 0; marking = markingFrom (m .events) (recordOf m) }
+    → readMarking (m .events) (take (recordBytes * m .events) (writeMarking m buffer))
+    ≡ record { number = 0; marking = markingFrom (m .events) (recordOf m) }
 unfolding writeNumber
 written-is-read m buffer h =
     let judged = both-done (markingNumber m) _ h .0 in
     let image = markingImage m in
-    let bytes : take (8 * m .events) (writeMarking m buffer) ≡ image =
-    ap (take (8 * m .events)) (bytes-written m buffer h)
-    ∙ take-at image (drop (8 * m .events) buffer) (8 * m .events) (images-length m 0 (m .events)) in
+    let bytes : take (recordBytes * m .events) (writeMarking m buffer) ≡ image =
+    ap (take (recordBytes * m .events)) (bytes-written m buffer h)
+    ∙ take-at image (drop (recordBytes * m .events) buffer) (recordBytes * m .events) (image-length m) in
     ap (readMarking (m .events)) bytes
     ∙ reads-as (m .events) image (readable-number (m .events) image (image-readable m judged))
-    ∙ ap (λ (l : List Record). record { number = 0; marking = record { records = l ++ replicate (64 - m .events) emptyRecord; events = m .events } })
+    ∙ ap (λ (l : List Record). record { number = 0; marking = record { records = l ++ replicate (mostEvents - m .events) emptyRecord; events = m .events } })
     (places-same emptyRecord (λ e. recordAt image (recordBit e)) (recordOf m) (m .events) (record-again m judged))
 
 -- Writing what was read gives the same bytes, and later bytes stay.
 pub read-is-written : (events : ℕ) (image buffer : List ℕ) → ((i : ℕ) → getD image i 0 < 256) → readMarking events image .number ≡ 0
-    → 8 * events ≤ length buffer
+    → recordBytes * events ≤ length buffer
     → (writeNumber (readMarking events image .marking) (length buffer) ≡ 0)
-    × (writeMarking (readMarking events image .marking) buffer ≡ image ++ drop (8 * events) buffer)
+    × (writeMarking (readMarking events image .marking) buffer ≡ image ++ drop (recordBytes * events) buffer)
 unfolding readMarking
 read-is-written events image buffer bytes h long =
     let f : ℕ → Record = λ e. recordAt image (recordBit e) in
     let r = readable events image h in
     let number = number-done (markingFrom events f) (length buffer) (from-done events f (r .fit) (r .done)) long in
     rw h
-    (number, bytes-written (markingFrom events f) buffer number ∙ ap (λ (l : List ℕ). l ++ drop (8 * events) buffer) (images-back events image r bytes))
+    let back = images-back events image r bytes in
+    (number, bytes-written (markingFrom events f) buffer number ∙ ap (λ (l : List ℕ). l ++ drop (recordBytes * events) buffer) back)
 
 -- A refusal leaves every byte; a marking that is written leaves every later byte.
 pub refused-leaves : (m : Marking) (buffer : List ℕ) → (writeNumber m (length buffer) ≡ 0 → ⊥) → writeMarking m buffer ≡ buffer
 refused-leaves m buffer h = bytes-kept m buffer h
 
-pub later-stay : (m : Marking) (buffer : List ℕ) → drop (8 * m .events) (writeMarking m buffer) ≡ drop (8 * m .events) buffer
+pub later-stay : (m : Marking) (buffer : List ℕ) → drop (recordBytes * m .events) (writeMarking m buffer) ≡ drop (recordBytes * m .events) buffer
 later-stay m buffer = by (ℕ-discrete (writeNumber m (length buffer)) 0)
   where
-    by : Dec (writeNumber m (length buffer) ≡ 0) → drop (8 * m .events) (writeMarking m buffer) ≡ drop (8 * m .events) buffer
+    by : Dec (writeNumber m (length buffer) ≡ 0) → drop (recordBytes * m .events) (writeMarking m buffer) ≡ drop (recordBytes * m .events) buffer
     by (yes e) =
-        ap (drop (8 * m .events)) (bytes-written m buffer e)
-        ∙ drop-at (markingImage m) (drop (8 * m .events) buffer) (8 * m .events) (images-length m 0 (m .events))
-    by (no h) = ap (drop (8 * m .events)) (bytes-kept m buffer h)
+        ap (drop (recordBytes * m .events)) (bytes-written m buffer e)
+        ∙ drop-at (markingImage m) (drop (recordBytes * m .events) buffer) (recordBytes * m .events) (image-length m)
+    by (no h) = ap (drop (recordBytes * m .events)) (bytes-kept m buffer h)

@@ -22,14 +22,14 @@ pub fn word(image: &[u8], at: usize, count: usize) -> u64
     v
 }
 
-// The 8 bytes from byte `at` on become the number's.
-pub fn put_word(buffer: &mut [u8], at: usize, v: u64)
-    requires { ⌜ at + 8 ≤ length (now buffer) ⌝ }
-    ensures { λ _. ⌜ now (buffer .exit) ≡ take at (now (buffer .entry)) ++ bytesOf 8 v ++ drop (at + 8) (now (buffer .entry)) ⌝ }
+// The `count` bytes from byte `at` on become the number's.
+pub fn put_word(buffer: &mut [u8], at: usize, count: usize, v: u64)
+    requires { ⌜ (at + count ≤ length (now buffer)) × (count ≤ 8) ⌝ }
+    ensures { λ _. ⌜ now (buffer .exit) ≡ take at (now (buffer .entry)) ++ bytesOf count v ++ drop (at + count) (now (buffer .entry)) ⌝ }
 {
     let mut i = 0;
-    while i < 8 {
-        buffer[at + i] = ((v >> (8 * (7 - i))) % 256) as u8;
+    while i < count {
+        buffer[at + i] = ((v >> (8 * (count - 1 - i))) % 256) as u8;
         i += 1;
     }
 }

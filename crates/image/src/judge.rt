@@ -7,17 +7,17 @@ ghost use mathlib.Core.Path.{_≡_};
 ghost use mathlib.Core.Bool.{cond};
 ghost use Prim.Native.Nat.{_≤_};
 ghost use Rattle.rules.specs.Numbers.{firstOf};
-ghost use Rattle.rules.specs.Holds.{limit, relationOf, recordOf};
+ghost use Rattle.rules.specs.Holds.{limit, mostEvents, mostRelations, relationOf, recordOf};
 ghost use Rattle.rules.specs.Judge.{eventsFit, timeFits, relationNumber, recordFits, recordNumber, markingNumber};
 
-// 1 to 64 events.
+// 1 event or more, and no more than the most.
 pub fn events_fit(n: usize) -> bool
     ensures { λ r. ⌜ r ≡ eventsFit n ⌝ }
 {
     if n < 1 {
         return false;
     }
-    n <= 64
+    n <= Table::MOST_EVENTS
 }
 
 // Bounded and time fit the kind.
@@ -71,7 +71,7 @@ pub fn relation_number(events: usize, k: Relation) -> u8
 
 // The first number, if any, that a relation of the table gives.
 pub fn relations_number(t: Table) -> u8
-    requires { ⌜ t .count ≤ 256 ⌝ }
+    requires { ⌜ t .count ≤ mostRelations ⌝ }
     ensures { λ r. ⌜ r ≡ firstOf (t .count) (λ k. relationNumber (t .events) (relationOf t k)) ⌝ }
 {
     let events = t.events;
@@ -133,7 +133,7 @@ pub fn marking_number(m: Marking) -> u8
 
 // The first number, if any, that a record of the marking gives.
 fn records_number(m: Marking) -> u8
-    requires { ⌜ m .events ≤ 64 ⌝ }
+    requires { ⌜ m .events ≤ mostEvents ⌝ }
     ensures { λ r. ⌜ r ≡ firstOf (m .events) (λ e. recordNumber (recordOf m e)) ⌝ }
 {
     let n = m.events;

@@ -29,7 +29,7 @@ pub fn read_table(image: &[u8]) -> TableAnswer
         return table::refused(3);
     }
     let count = ((w >> 16) % 512) as usize;
-    if 256 < count {
+    if Table::MOST_RELATIONS < count {
         return table::refused(3);
     }
     if image.len() != 4 + events + 6 * count {
@@ -49,13 +49,13 @@ pub fn read_marking(events: usize, image: &[u8]) -> MarkingAnswer
     if !judge::events_fit(events) {
         return MarkingAnswer::refused(3);
     }
-    if image.len() != 8 * events {
+    if image.len() != Marking::RECORD_BYTES * events {
         return MarkingAnswer::refused(1);
     }
     marking::records_in(events, image)
 }
 
-// A marking into the first 8 bytes per event of a lent buffer; a refusal leaves every byte.
+// A marking's image into the first bytes of a lent buffer; a refusal leaves every byte.
 pub fn write_marking(m: Marking, buffer: &mut [u8]) -> u8
     ensures number { λ r. ⌜ r ≡ writeNumber m (length (now (buffer .entry))) ⌝ }
     ensures bytes { λ r. ⌜ now (buffer .exit) ≡ writeMarking m (now (buffer .entry)) ⌝ }
@@ -64,7 +64,7 @@ pub fn write_marking(m: Marking, buffer: &mut [u8]) -> u8
     if number != 0 {
         return number;
     }
-    if buffer.len() < 8 * m.events {
+    if buffer.len() < Marking::RECORD_BYTES * m.events {
         return 14;
     }
     marking::put_records(m, buffer);
@@ -78,7 +78,7 @@ pub fn judge_table(t: Table) -> u8
     if !judge::events_fit(t.events) {
         return 3;
     }
-    if 256 < t.count {
+    if Table::MOST_RELATIONS < t.count {
         return 3;
     }
     judge::relations_number(t)

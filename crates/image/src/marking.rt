@@ -1,4 +1,4 @@
-// The records of a marking, in and out of an image: 8 bytes per event.
+// The records of a marking, in and out of an image.
 use crate::bits;
 use crate::judge;
 use rules::Marking;
@@ -8,12 +8,13 @@ ghost use mathlib.Core.Path.{_≡_};
 ghost use mathlib.Core.List.{_++_};
 ghost use Prim.Native.Nat.{_*_, _≤_};
 ghost use lib.ListN.{length, drop};
+ghost use Rattle.rules.specs.Holds.{mostEvents};
 ghost use Rattle.rules.specs.Judge.{recordNumber, markingNumber};
-ghost use Rattle.rules.specs.Image.{markingImage};
+ghost use Rattle.rules.specs.Image.{recordBytes, markingImage};
 ghost use Rattle.image.specs.Words.{recordOfWord, wordOfRecord};
 ghost use Rattle.image.specs.Parts.{recordsRead};
 
-// The record that 8 bytes hold.
+// The record that its bytes hold as a number.
 fn record_of(w: u64) -> Record
     ensures { λ r. ⌜ r ≡ recordOfWord w ⌝ }
 {
@@ -27,7 +28,7 @@ fn record_of(w: u64) -> Record
     }
 }
 
-// The number that a record's 8 bytes hold.
+// The number that a record's bytes hold.
 fn word_of(r: Record) -> u64
     requires { ⌜ recordNumber r ≡ 0 ⌝ }
     ensures { λ w. ⌜ w ≡ wordOfRecord r ⌝ }
@@ -42,13 +43,13 @@ fn word_of(r: Record) -> u64
 
 // So many records, or the first number that one gives.
 pub fn records_in(events: usize, image: &[u8]) -> MarkingAnswer
-    requires { ⌜ (events ≤ 64) × (length (now image) ≡ 8 * events) ⌝ }
+    requires { ⌜ (events ≤ mostEvents) × (length (now image) ≡ recordBytes * events) ⌝ }
     ensures { λ r. ⌜ r ≡ recordsRead events (now (image .entry)) ⌝ }
 {
     let mut records = Marking::empty().records;
     let mut i = 0;
     while i < events {
-        let r = record_of(bits::word(image, 8 * i, 8));
+        let r = record_of(bits::word(image, Marking::RECORD_BYTES * i, Marking::RECORD_BYTES));
         let number = judge::record_number(r);
         if number != 0 {
             return MarkingAnswer::refused(number);
@@ -64,14 +65,19 @@ pub fn records_in(events: usize, image: &[u8]) -> MarkingAnswer
 
 // The records of a marking that is judged 'done', into a buffer with room for them.
 pub fn put_records(m: Marking, buffer: &mut [u8])
-    requires { ⌜ (markingNumber m ≡ 0) × (8 * m .events ≤ length (now buffer)) ⌝ }
-    ensures { λ _. ⌜ now (buffer .exit) ≡ markingImage m ++ drop (8 * m .events) (now (buffer .entry)) ⌝ }
+    requires { ⌜ (markingNumber m ≡ 0) × (recordBytes * m .events ≤ length (now buffer)) ⌝ }
+    ensures { λ _. ⌜ now (buffer .exit) ≡ markingImage m ++ drop (recordBytes * m .events) (now (buffer .entry)) ⌝ }
 {
     let n = m.events;
     let mut i = 0;
     while i < n {
         let r = m.records[i];
-        bits::put_word(buffer, 8 * i, word_of(r));
+        bits::put_word(
+            buffer,
+            Marking::RECORD_BYTES * i,
+            Marking::RECORD_BYTES,
+            word_of(r),
+        );
         i += 1;
     }
 }

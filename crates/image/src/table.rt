@@ -8,7 +8,8 @@ ghost use mathlib.Core.Path.{_≡_};
 ghost use mathlib.Core.Bool.{cond};
 ghost use Prim.Native.Nat.{_+_, _*_, _^_, _≤_, _<_};
 ghost use lib.ListN.{length};
-ghost use Rattle.rules.specs.Holds.{emptyTable};
+ghost use Rattle.rules.specs.Holds.{mostEvents, mostRelations, emptyTable};
+ghost use Rattle.rules.specs.Image.{tableLength};
 ghost use Rattle.image.specs.Words.{relationOfWord};
 ghost use Rattle.image.specs.Parts.{classesRead, relationsRead};
 
@@ -33,7 +34,7 @@ pub fn refused(number: u8) -> TableAnswer
     TableAnswer {
         number,
         table: Table {
-            relations: [nothing; 256],
+            relations: [nothing; Table::MOST_RELATIONS],
             controllable: 0,
             causable: 0,
             events: 0,
@@ -65,7 +66,7 @@ fn event_if(there: bool, e: usize) -> u64
 
 // The classes of so many events, a byte each.
 pub fn classes_in(image: &[u8], events: usize) -> Classes
-    requires { ⌜ (events ≤ 64) × (4 + events ≤ length (now image)) ⌝ }
+    requires { ⌜ (events ≤ mostEvents) × (4 + events ≤ length (now image)) ⌝ }
     ensures { λ r. ⌜ r ≡ classesRead (now (image .entry)) events ⌝ }
 {
     let mut controllable: u64 = 0;
@@ -99,7 +100,7 @@ pub fn relations_in(
     controllable: u64,
     causable: u64,
 ) -> TableAnswer
-    requires { ⌜ (events ≤ 64) × (count ≤ 256) × (length (now image) ≡ 4 + events + 6 * count) ⌝ }
+    requires { ⌜ (events ≤ mostEvents) × (count ≤ mostRelations) × (length (now image) ≡ tableLength events count) ⌝ }
     ensures { λ r. ⌜ r ≡ relationsRead (now (image .entry)) events count controllable causable ⌝ }
 {
     let mut relations = refused(0).table.relations;

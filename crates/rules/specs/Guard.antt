@@ -15,7 +15,7 @@ use Rattle.rules.specs.declared.GuardedAnswer.{GuardedAnswer}
 use Rattle.rules.specs.Counting.{some, lowest}
 use Rattle.rules.specs.Numbers.{done, checkNumber, checkReason, checkPlace}
 use Rattle.rules.specs.EventSet.{has}
-use Rattle.rules.specs.Holds.{isCondition, isMilestone, relationOf, recordOf}
+use Rattle.rules.specs.Holds.{mostEvents, isCondition, isMilestone, relationOf, recordOf}
 use Rattle.rules.specs.Effect.{effect}
 use Rattle.rules.specs.Time.{dueSet, time}
 use Rattle.rules.specs.Closure.{followed, follows, widenedFully}
@@ -77,7 +77,7 @@ guardedTick t m =
       number = number;
       reason = checkReason checked;
       place = checkPlace checked;
-      caused = events ++ replicate (64 - length events) 0;
+      caused = events ++ replicate (mostEvents - length events) 0;
       count = length events;
       marking = done number (guarded t m) m;
     }

@@ -1,4 +1,4 @@
--- What the engine holds: the kinds of relation, the limit of age, time and deadline, empty places, and how a table and a marking are read.
+-- What the engine holds: the kinds of relation, the limits, empty places, and how a table and a marking are read.
 use mathlib.Core.Bool.{Bool, true, false, not}
 use Prim.Native.Nat.{ℕ}
 use lib.Dec.{eqb}
@@ -12,6 +12,13 @@ use Rattle.rules.specs.EventSet.{has}
 -- ages, times and deadlines are at most this
 abbrev pub limit : ℕ
 limit = 1_000_000_000
+
+-- a table has at most so many events, and at most so many relations
+abbrev pub mostEvents : ℕ
+mostEvents = 64
+
+abbrev pub mostRelations : ℕ
+mostRelations = 256
 
 -- 1 condition: left needs right at least time ago
 abbrev pub isCondition : Relation → Bool
@@ -39,10 +46,10 @@ abbrev pub emptyRecord : Record
 emptyRecord = record { age = 0; deadline = 0; happened = false; included = false; pending = false; bounded = false }
 
 abbrev pub emptyTable : Table
-emptyTable = record { relations = replicate 256 emptyRelation; controllable = 0; causable = 0; events = 0; count = 0 }
+emptyTable = record { relations = replicate mostRelations emptyRelation; controllable = 0; causable = 0; events = 0; count = 0 }
 
 abbrev pub emptyMarking : Marking
-emptyMarking = record { records = replicate 64 emptyRecord; events = 0 }
+emptyMarking = record { records = replicate mostEvents emptyRecord; events = 0 }
 
 -- relation k of a table; the record of event e in a marking
 abbrev pub relationOf : Table → ℕ → Relation

@@ -1,7 +1,7 @@
 -- The images: reading a table, reading and writing a marking, the fresh marking.
 use mathlib.Core.Bool.{Bool, true, false, not, _&&_, cond}
-use mathlib.Core.List.{List, [], _∷_, _++_}
-use Prim.Native.Nat.{ℕ, zero, suc, _+_, _-_, _*_}
+use mathlib.Core.List.{List, _++_}
+use Prim.Native.Nat.{ℕ, _+_, _-_, _*_}
 use lib.Dec.{eqb, leb, ltb}
 use lib.ListN.{length, drop, replicate}
 use Rattle.rules.specs.declared.Relation.{Relation}
@@ -13,8 +13,9 @@ use Rattle.rules.specs.declared.MarkingAnswer.{MarkingAnswer}
 use Rattle.rules.specs.Counting.{places}
 use Rattle.rules.specs.Numbers.{_if_, _else_, firstOf, done}
 use Rattle.rules.specs.EventSet.{setOf}
-use Rattle.rules.specs.Holds.{emptyRelation, emptyRecord, emptyTable, emptyMarking, recordOf}
+use Rattle.rules.specs.Holds.{mostEvents, mostRelations, emptyRelation, emptyRecord, emptyTable, emptyMarking, recordOf}
 use Rattle.rules.specs.Fields.{field, flag, _▸_, _∶_, bit, bytesOf}
+use Rattle.rules.specs.Pieces.{pieces}
 use Rattle.rules.specs.Judge.{eventsFit, relationsFit, relationNumber, recordNumber, markingNumber}
 
 -- Table image. Header, 4 bytes: events 7 bits, relations 9 bits, spare 16 bits
@@ -76,7 +77,7 @@ tableIn image =
     let n = eventsIn image in
     let relations = relationsIn image in
     record {
-      relations = places relations (λ k. relationAt image (relationBit n k)) ++ replicate (256 - relations) emptyRelation;
+      relations = places relations (λ k. relationAt image (relationBit n k)) ++ replicate (mostRelations - relations) emptyRelation;
       controllable = setOf n (λ e. flag image (classBit e));
       causable = setOf n (λ e. flag image (classBit e + 1));
       events = n;
@@ -112,32 +113,31 @@ markingImageNumber events image =
 
 -- so many records, and event places past the count empty
 abbrev pub markingFrom : ℕ → (ℕ → Record) → Marking
-markingFrom events f = record { records = places events f ++ replicate (64 - events) emptyRecord; events = events }
+markingFrom events f = record { records = places events f ++ replicate (mostEvents - events) emptyRecord; events = events }
 
 unfoldable pub readMarking : ℕ → List ℕ → MarkingAnswer
 readMarking events image =
     let number = markingImageNumber events image in
     record { number = number; marking = done number (markingFrom events (λ e. recordAt image (recordBit e))) emptyMarking }
 
--- a record in its 8 bytes
+-- a record in its bytes
 unfoldable pub recordImage : Record → List ℕ
 recordImage r =
     bytesOf recordBytes
     (bit (r .happened) ▸ 30 ∶ r .age ▸ 1 ∶ bit (r .included) ▸ 1 ∶ bit (r .pending) ▸ 1 ∶ bit (r .bounded) ▸ 30 ∶ r .deadline)
 
--- the records of a marking from event `at` on, n of them
-unfoldable pub recordImages : Marking → ℕ → ℕ → List ℕ
-recordImages m at zero = []
-recordImages m at (suc n) = recordImage (recordOf m at) ++ recordImages m (suc at) n
+-- the record of event e, and the records of a marking in order
+abbrev pub eventImage : Marking → ℕ → List ℕ
+eventImage m e = recordImage (recordOf m e)
 
 abbrev pub markingImage : Marking → List ℕ
-markingImage m = recordImages m 0 (m .events)
+markingImage m = pieces (eventImage m) 0 (m .events)
 
 -- a marking written alone into a buffer of so many bytes: 3, 7, 14
 unfoldable pub writeNumber : Marking → ℕ → ℕ
 writeNumber m room = markingNumber m else 14 if ltb room (recordBytes * m .events)
 
--- what the lent buffer holds afterwards: the first 8 × events bytes, and later bytes stay
+-- what the lent buffer holds afterwards: the records first, and later bytes stay
 unfoldable pub writeMarking : Marking → List ℕ → List ℕ
 writeMarking m buffer = done (writeNumber m (length buffer)) (markingImage m ++ drop (recordBytes * m .events) buffer) buffer
 

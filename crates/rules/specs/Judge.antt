@@ -8,14 +8,14 @@ use Rattle.rules.specs.declared.Record.{Record}
 use Rattle.rules.specs.declared.Marking.{Marking}
 use Rattle.rules.specs.Counting.{every}
 use Rattle.rules.specs.Numbers.{_if_, _else_, firstOf}
-use Rattle.rules.specs.Holds.{limit, isCondition, isResponse, relationOf, recordOf}
+use Rattle.rules.specs.Holds.{limit, mostEvents, mostRelations, isCondition, isResponse, relationOf, recordOf}
 
 -- 1 to 64 events, 0 to 256 relations
 abbrev pub eventsFit : ℕ → Bool
-eventsFit n = leb 1 n && leb n 64
+eventsFit n = leb 1 n && leb n mostEvents
 
 abbrev pub relationsFit : ℕ → Bool
-relationsFit n = leb n 256
+relationsFit n = leb n mostRelations
 
 -- bounded and time fit the kind. A condition: 1; 0 to the limit. A response: 1; 1 to the limit, or 0; 0. Any other: 0; 0
 unfoldable pub timeFits : Relation → Bool

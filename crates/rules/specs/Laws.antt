@@ -7,6 +7,7 @@ pub mod Words
 pub mod Judge
 pub mod Fit
 pub mod Fields
+pub mod Pieces
 pub mod Told
 pub mod Time
 pub mod Ask

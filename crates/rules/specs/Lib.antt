@@ -4,6 +4,7 @@ pub mod Numbers
 pub mod EventSet
 pub mod Holds
 pub mod Fields
+pub mod Pieces
 pub mod Judge
 pub mod Image
 pub mod Enabled

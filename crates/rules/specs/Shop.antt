@@ -8,7 +8,7 @@ use Rattle.rules.specs.declared.Table.{Table}
 use Rattle.rules.specs.declared.Record.{Record}
 use Rattle.rules.specs.declared.Marking.{Marking}
 use Rattle.rules.specs.declared.Step.{Step}
-use Rattle.rules.specs.Holds.{emptyRelation, emptyRecord}
+use Rattle.rules.specs.Holds.{mostEvents, mostRelations, emptyRelation, emptyRecord}
 
 -- relations, by what they say
 abbrev pub condition : ℕ → ℕ → ℕ → Relation
@@ -32,7 +32,7 @@ milestone e f = record { kind = 5; left = e; right = f; bounded = false; time = 
 -- a table, unused places empty; a marking, event places past the count empty
 abbrev pub table : ℕ → ℕ → ℕ → List Relation → Table
 table n controllable causable relations = record {
-  relations = relations ++ replicate (256 - length relations) emptyRelation;
+  relations = relations ++ replicate (mostRelations - length relations) emptyRelation;
   controllable = controllable;
   causable = causable;
   events = n;
@@ -40,7 +40,7 @@ table n controllable causable relations = record {
 }
 
 abbrev pub marking : List Record → Marking
-marking records = record { records = records ++ replicate (64 - length records) emptyRecord; events = length records }
+marking records = record { records = records ++ replicate (mostEvents - length records) emptyRecord; events = length records }
 
 -- records, by what they say
 abbrev pub idle : Record

@@ -14,7 +14,7 @@ pub struct Relation {
 
 // A table. Event n is in a class if the class's set has the bit worth 2^n; `count` is the number of relations.
 pub struct Table {
-    pub relations: [Relation; 256],
+    pub relations: [Relation; Table::MOST_RELATIONS],
     pub controllable: u64,
     pub causable: u64,
     pub events: usize,
@@ -32,7 +32,7 @@ pub struct Record {
 }
 
 pub struct Marking {
-    pub records: [Record; 64],
+    pub records: [Record; Table::MOST_EVENTS],
     pub events: usize,
 }
 
@@ -95,7 +95,7 @@ pub struct GuardedAnswer {
     pub number: u8,
     pub reason: u8,
     pub place: usize,
-    pub caused: [u8; 64],
+    pub caused: [u8; Table::MOST_EVENTS],
     pub count: usize,
     pub marking: Marking,
 }
@@ -107,9 +107,25 @@ pub struct RemedyAnswer {
     pub length: usize,
 }
 
+impl Table {
+    // A table has at most so many events.
+    pub const MOST_EVENTS: usize = 64;
+
+    // A table has at most so many relations.
+    pub const MOST_RELATIONS: usize = 256;
+}
+
+impl Step {
+    // A trace has at most so many steps.
+    pub const MOST: usize = 4096;
+}
+
 impl Marking {
     // Ages, times and deadlines are at most this.
     pub const AGE_LIMIT: u32 = 1_000_000_000;
+
+    // The bytes of a record in a marking's image.
+    pub const RECORD_BYTES: usize = 8;
 
     // No events, and every place empty.
     pub fn empty() -> Marking
@@ -124,7 +140,7 @@ impl Marking {
             bounded: false,
         };
         Marking {
-            records: [nothing; 64],
+            records: [nothing; Table::MOST_EVENTS],
             events: 0,
         }
     }
@@ -136,7 +152,7 @@ impl Marking {
         if events < 1 {
             return MarkingAnswer::refused(3);
         }
-        if 64 < events {
+        if Table::MOST_EVENTS < events {
             return MarkingAnswer::refused(3);
         }
         let ready = Record {

@@ -17,17 +17,17 @@ fn beyond() -> usize {
 
 // An input that does not fill the room has nothing after it.
 fn rest(kept: usize) -> usize {
-    if kept < 10308 {
+    if kept < engine::LONGEST_INPUT {
         return 0;
     }
     beyond()
 }
 
 fn main() {
-    let mut input = [0u8; 10308];
+    let mut input = [0u8; engine::LONGEST_INPUT];
     let kept = io::read_full(0, &mut input);
     let more = rest(kept);
-    let mut output = [0u8; 4608];
+    let mut output = [0u8; engine::LONGEST_OUTPUT];
     let n = engine::station(&input[..kept], more, &mut output);
     io::write_all(1, &output[..n]);
 }

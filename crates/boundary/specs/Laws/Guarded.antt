@@ -13,6 +13,7 @@ use Rattle.rules.specs.declared.Table.{Table}
 use Rattle.rules.specs.declared.Marking.{Marking}
 use Rattle.rules.specs.declared.GuardedAnswer.{GuardedAnswer}
 use Rattle.rules.specs.Numbers.{_if_, _else_, done, checkNumber}
+use Rattle.rules.specs.Holds.{mostEvents}
 use Rattle.rules.specs.Check.{check}
 use Rattle.rules.specs.Guard.{caused, guardedTick}
 use Rattle.rules.specs.Laws.Numbers.{if-done, both-done, else-done, else-refused}
@@ -37,7 +38,7 @@ module _ (t : Table) (m : Marking) (answer : GuardedAnswer) (answer-is : answer 
   unfolding guardedTick
   caused-is =
       ap (take (answer .count)) (ap (λ (a : GuardedAnswer). a .caused) answer-is ∙ rw granted)
-      ∙ take-at (caused t m) (replicate (64 - length (caused t m)) 0) (answer .count) (sym count-is)
+      ∙ take-at (caused t m) (replicate (mostEvents - length (caused t m)) 0) (answer .count) (sym count-is)
 
   -- as they are told
   pub count-told : (before : ℕ) → answer .count ≡ done (answer .number) (length (caused t m)) before

@@ -7,7 +7,7 @@ use Rattle.rules.specs.declared.TableAnswer.{TableAnswer}
 use Rattle.rules.specs.declared.MarkingAnswer.{MarkingAnswer}
 use Rattle.rules.specs.Numbers.{_else_}
 use Rattle.rules.specs.Judge.{judged}
-use Rattle.rules.specs.Image.{readTable, readMarking}
+use Rattle.rules.specs.Image.{recordBytes, readTable, readMarking}
 use Rattle.rules.specs.Laws.Numbers.{both-done}
 use Rattle.image.specs.Theorems.{read-table-accepted, read-marking-accepted}
 use Rattle.image.specs.Laws.Round.{readable}
@@ -22,7 +22,7 @@ module _ (table marking : List ℕ) (done : imagesNumber table marking ≡ 0) wh
   unfolding judged tableOf markingOf
   read-judged = rw (read-table-accepted table (parts .0)) (read-marking-accepted (tableOf table .events) marking (parts .1))
 
-  pub marking-long : length marking ≡ 8 * tableOf table .events
+  pub marking-long : length marking ≡ recordBytes * tableOf table .events
   unfolding readMarking
   marking-long = readable (tableOf table .events) marking (parts .1) .exact
 

@@ -12,7 +12,7 @@ use Rattle.rules.specs.declared.Marking.{Marking}
 use Rattle.rules.specs.declared.MarkingAnswer.{MarkingAnswer}
 use Rattle.rules.specs.Numbers.{_if_, _else_, done, checkNumber}
 use Rattle.rules.specs.Judge.{eventsFit, tableNumber, markingNumber, markingNumberFor, judged}
-use Rattle.rules.specs.Image.{markingImage, writeNumber, writeMarking, fresh}
+use Rattle.rules.specs.Image.{recordBytes, markingImage, writeNumber, writeMarking, fresh}
 use Rattle.rules.specs.Effect.{effect}
 use Rattle.rules.specs.Time.{time, plainTick, plainTickNumber}
 use Rattle.rules.specs.Ask.{request, requestNumber, report, reportNumber}
@@ -84,14 +84,14 @@ pub fills : (table marking : List ℕ) (m : Marking) → imagesNumber table mark
 unfolding judged
 fills table marking m read h = record {
   judged-done = marking-done (tableOf table .events) m (both-done (tableNumber (tableOf table)) _ h .1);
-  exact = ap (λ (n : ℕ). 8 * n) (good (tableOf table) m h .marking-good .same-events) ∙ sym (marking-long table marking read);
+  exact = ap (λ (n : ℕ). recordBytes * n) (good (tableOf table) m h .marking-good .same-events) ∙ sym (marking-long table marking read);
 }
 
 -- and is all that the buffer holds once it is written
 pub filled : (m : Marking) (buffer : List ℕ) → Fills m buffer → writeMarking m buffer ≡ markingImage m
 filled m buffer f =
     bytes-written m buffer (number-done m (length buffer) (f .judged-done) (omega (arith, f .exact)))
-    ∙ ap (λ (l : List ℕ). markingImage m ++ l) (drop-of-length-le buffer {i = 8 * m .events} (omega (arith, f .exact)))
+    ∙ ap (λ (l : List ℕ). markingImage m ++ l) (drop-of-length-le buffer {i = recordBytes * m .events} (omega (arith, f .exact)))
     ∙ append-nil (markingImage m)
 
 -- a fresh marking that is written: 14 is all that can be in the way, and later bytes stay
@@ -99,15 +99,15 @@ module _ (events : ℕ) (made : MarkingAnswer) (made-is : made ≡ fresh events)
   fresh-done : fresh events .number ≡ 0
   fresh-done = rw made-is at h
 
-  number-fresh : writeNumber (fresh events .marking) (length buffer) ≡ (14 if ltb (length buffer) (8 * events))
+  number-fresh : writeNumber (fresh events .marking) (length buffer) ≡ (14 if ltb (length buffer) (recordBytes * events))
   unfolding writeNumber
   number-fresh =
       let accepted = fresh-accepted events fresh-done in
       rw (marking-done events (fresh events .marking) accepted, good-marking events (fresh events .marking) accepted .same-events)
 
   pub fresh-written : (number : ℕ) (put : List ℕ) → number ≡ writeNumber (made .marking) (length buffer) → put ≡ writeMarking (made .marking) buffer
-      → (number ≡ (fresh events .number else 14 if ltb (length buffer) (8 * events)))
-      × (put ≡ done number (markingImage (fresh events .marking) ++ drop (8 * events) buffer) buffer)
+      → (number ≡ (fresh events .number else 14 if ltb (length buffer) (recordBytes * events)))
+      × (put ≡ done number (markingImage (fresh events .marking) ++ drop (recordBytes * events) buffer) buffer)
   unfolding writeMarking
   fresh-written number put n p =
       let m = fresh events .marking in
@@ -116,6 +116,6 @@ module _ (events : ℕ) (made : MarkingAnswer) (made-is : made ≡ fresh events)
         as-made ∙ number-fresh ∙ sym (else-done _ fresh-done),
         p
             ∙ ap (λ (a : MarkingAnswer). writeMarking (a .marking) buffer) made-is
-            ∙ ap (λ (k : ℕ). done k (markingImage m ++ drop (8 * m .events) buffer) buffer) (sym as-made)
-            ∙ ap (λ (k : ℕ). done number (markingImage m ++ drop (8 * k) buffer) buffer) same,
+            ∙ ap (λ (k : ℕ). done k (markingImage m ++ drop (recordBytes * m .events) buffer) buffer) (sym as-made)
+            ∙ ap (λ (k : ℕ). done number (markingImage m ++ drop (recordBytes * k) buffer) buffer) same,
       )

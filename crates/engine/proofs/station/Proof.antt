@@ -7,14 +7,14 @@ use lib.ListN.{length, set}
 use lib.Seq.{length-take-le}
 use mathlib.Core.Logic.{_⊎_}
 use Rattle.rules.specs.Laws.Station.{longest}
-use Rattle.engine.specs.Heard.{Told, written}
+use Rattle.engine.specs.Heard.{longestOutput, Told, written}
 use Rattle.engine.specs.Laws.Heard.{used-right, table-refused, table-read, few-read, rest-there, told-none, told-one}
 use borrow.Author.Needs.{needs}
 use Rattle.engine.proofs.station.Statement.{statement}
 use Rattle.engine.proofs.station.Tie as tie
 
 -- what the first test told
-right-use : (c : tie.Else1) → (4608 ≤ length (c .before .before .before .before .args .output .now)) × ((c .before .before .before .before .args .beyond ≡ 0) ⊎ (longest ≤ length (c .before .before .before .before .args .input .now)))
+right-use : (c : tie.Else1) → (longestOutput ≤ length (c .before .before .before .before .args .output .now)) × ((c .before .before .before .before .args .beyond ≡ 0) ⊎ (longest ≤ length (c .before .before .before .before .args .input .now)))
 right-use c = used-right _ _ _ (sym (c .before .misused .ensures) ∙ c .if1 .left)
 
 misused-requires : tie.Need-misused-requires

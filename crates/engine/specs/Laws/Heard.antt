@@ -15,18 +15,19 @@ use Rattle.rules.specs.declared.Marking.{Marking}
 use Rattle.rules.specs.declared.TableAnswer.{TableAnswer}
 use Rattle.rules.specs.declared.MarkingAnswer.{MarkingAnswer}
 use Rattle.rules.specs.Numbers.{_if_, _else_, done}
+use Rattle.rules.specs.Holds.{mostEvents}
 use Rattle.rules.specs.Fields.{field}
 use Rattle.rules.specs.Judge.{eventsFit, tableNumber, markingNumber, markingNumberFor, judged}
 use Rattle.rules.specs.Image.{recordBytes, eventsIn, readTable, readMarking, markingImage, writeNumber, writeMarking}
-use Rattle.rules.specs.Trace.{traceNumber, stepsIn, endOf, answersOf}
+use Rattle.rules.specs.Trace.{mostSteps, traceNumber, stepsIn, endOf, answersOf}
 use Rattle.rules.specs.Station.{station}
 use Rattle.rules.specs.Laws.Tests.{decide, neither}
 use Rattle.rules.specs.Laws.Numbers.{if-done, both-done}
 use Rattle.rules.specs.Laws.Judge.{good}
 use Rattle.rules.specs.Laws.Fields.{field-lt, field-join, byte-field}
 use Rattle.rules.specs.Laws.Trace.{answers-length, steps-length, end-judged}
-use Rattle.rules.specs.Laws.Station.{longest, tableBytes, tablePart, markingPart, stepsPart, numberOf, stationNumber, station-is, too-long, granted-short, header-small, field-take, table-events, table-short, table-same, events-same, number-by, steps-left, same-answer}
-use Rattle.image.specs.Laws.Records.{images-length}
+use Rattle.rules.specs.Laws.Station.{longestMarking, longestSteps, longest, tableBytes, tablePart, markingPart, stepsPart, numberOf, stationNumber, station-is, too-long, granted-short, header-small, field-take, table-events, table-short, table-same, events-same, number-by, steps-left, same-answer}
+use Rattle.image.specs.Laws.Records.{image-length}
 use Rattle.image.specs.Laws.Written.{number-done, bytes-written}
 use Rattle.engine.specs.Heard.{longestOutput, Told, misused, written, afterMarking, afterTable}
 
@@ -56,7 +57,7 @@ pub to-end : (n : ℕ) (l : List ℕ) → take (length l - n) (drop n l) ≡ dro
 to-end n l = take-all (length l - n) (drop n l) (omega (arith, length-drop n l))
 
 -- A call that is not misused
-pub used-right : (kept beyond room : ℕ) → misused kept beyond room ≡ false → (4608 ≤ room) × ((beyond ≡ 0) ⊎ (longest ≤ kept))
+pub used-right : (kept beyond room : ℕ) → misused kept beyond room ≡ false → (longestOutput ≤ room) × ((beyond ≡ 0) ⊎ (longest ≤ kept))
 unfolding misused
 used-right kept beyond room h = (ltb-false room longestOutput (p .0), go (eqb beyond 0) refl (p .1))
   where
@@ -186,15 +187,15 @@ module _ (kept : List ℕ) (beyond : ℕ) (enough : (beyond ≡ 0) ⊎ (longest 
           ∙ ap (λ (k : TableAnswer). afterFew (k .table) (eventsIn kept) (drop (tableBytes kept) kept)) read-part
           ∙ sym (heard-is ∙ ap (λ (n : ℕ). done n (afterFew (readTable (tablePart kept) .table) (eventsIn kept) (drop (tableBytes kept) kept)) (n ∷ [])) accepted)
 
-      pub rest-there : (beyond ≡ 0) ⊎ (8704 ≤ length (take (length kept - size) (drop size kept)))
+      pub rest-there : (beyond ≡ 0) ⊎ (longestMarking + longestSteps ≤ length (take (length kept - size) (drop size kept)))
       rest-there = rw (to-end size kept)
           (⊎-elim (λ z. inl z) (λ l. inr (omega (arith, l, table-short (take size kept) (rw read-is at h), length-take size kept, length-drop size kept))) enough)
 
 -- The marking's part
-module _ (t : Table) (rest : List ℕ) (beyond size : ℕ) (cut : size ≡ min (8 * t .events) (length rest))
+module _ (t : Table) (rest : List ℕ) (beyond size : ℕ) (cut : size ≡ min (recordBytes * t .events) (length rest))
     (read : MarkingAnswer) (read-is : read ≡ readMarking (t .events) (take size rest)) where
-  marking-part : read ≡ readMarking (t .events) (take (8 * t .events) rest)
-  marking-part = read-is ∙ ap (readMarking (t .events)) (rw cut (take-least (8 * t .events) rest))
+  marking-part : read ≡ readMarking (t .events) (take (recordBytes * t .events) rest)
+  marking-part = read-is ∙ ap (readMarking (t .events)) (rw cut (take-least (recordBytes * t .events) rest))
 
   pub marking-refused : (read .number ≡ 0 → ⊥) → afterTable t rest beyond ≡ read .number ∷ []
   unfolding afterTable
@@ -203,29 +204,30 @@ module _ (t : Table) (rest : List ℕ) (beyond size : ℕ) (cut : size ≡ min (
   pub marking-read : read .number ≡ 0 → afterMarking t (read .marking) (take (length rest - size) (drop size rest)) beyond ≡ afterTable t rest beyond
   unfolding afterTable
   marking-read h =
-      let whole : drop size rest ≡ drop (8 * t .events) rest = rw cut (drop-least (8 * t .events) rest) in
+      let whole : drop size rest ≡ drop (recordBytes * t .events) rest = rw cut (drop-least (recordBytes * t .events) rest) in
       rw (to-end size rest, whole, ← marking-part, h)
 
-  pub steps-there : t .events ≤ 64 → (beyond ≡ 0) ⊎ (8704 ≤ length rest) → (beyond ≡ 0) ⊎ (8192 ≤ length (take (length rest - size) (drop size rest)))
+  pub steps-there : t .events ≤ mostEvents → (beyond ≡ 0) ⊎ (longestMarking + longestSteps ≤ length rest)
+      → (beyond ≡ 0) ⊎ (longestSteps ≤ length (take (length rest - size) (drop size rest)))
   steps-there few enough = rw (to-end size rest) (⊎-elim (λ z. inl z) (λ l. inr (omega (arith, l, few, cut, length-drop size rest))) enough)
 
 -- The steps
 module _ (t : Table) (m : Marking) (kept : List ℕ) where
-  pub steps-long : (beyond : ℕ) → (beyond ≡ 0 → ⊥) → (beyond ≡ 0) ⊎ (8192 ≤ length kept)
+  pub steps-long : (beyond : ℕ) → (beyond ≡ 0 → ⊥) → (beyond ≡ 0) ⊎ (longestSteps ≤ length kept)
       → {n : ℕ} → n ≡ (judged t m else 1 if eqb ((length kept + beyond) % 2) 1 else 14) → afterMarking t m kept beyond ≡ n ∷ []
   unfolding afterMarking traceNumber
   steps-long beyond more enough {n} e = rw (same (eqb ((length kept + beyond) % 2) 1) refl, ← e, ne-eqb n 0 refused)
     where
-      full : 8192 ≤ length kept
+      full : longestSteps ≤ length kept
       full = ⊎-elim (λ z. absurd (more z)) (λ l. l) enough
 
       steps : ℕ
       steps = length kept + beyond
 
       same : (odd : Bool) → eqb (steps % 2) 1 ≡ odd
-          → (judged t m else 1 if odd else 14 if (ltb 4096 (steps / 2) || ltb (steps / 2) (steps / 2))) ≡ (judged t m else 1 if odd else 14)
+          → (judged t m else 1 if odd else 14 if (ltb mostSteps (steps / 2) || ltb (steps / 2) (steps / 2))) ≡ (judged t m else 1 if odd else 14)
       same true e = refl
-      same false e = rw (lt-ltb 4096 (steps / 2) (omega (arith, full, more, eqb-false (steps % 2) 1 e)))
+      same false e = rw (lt-ltb mostSteps (steps / 2) (omega (arith, full, more, eqb-false (steps % 2) 1 e)))
 
       refused : n ≡ 0 → ⊥
       refused z =
@@ -245,14 +247,14 @@ module _ (t : Table) (m : Marking) (kept : List ℕ) where
   steps-done h = let all : length kept + 0 ≡ length kept = omega arith in rw (all, h)
 
   -- and what is known then
-  pub steps-granted : byNumber (length kept) ≡ 0 → (judged t m ≡ 0) × (length kept / 2 ≤ 4096)
+  pub steps-granted : byNumber (length kept) ≡ 0 → (judged t m ≡ 0) × (length kept / 2 ≤ mostSteps)
   unfolding traceNumber
   steps-granted h =
-      let long = ltb 4096 (length kept / 2) in
+      let long = ltb mostSteps (length kept / 2) in
       let tight = ltb (length kept / 2) (length kept / 2) in
       let p = both-done (judged t m) _ h in
       let q = both-done (1 if eqb (length kept % 2) 1) _ (p .1) in
-      (p .0, ltb-false 4096 (length kept / 2) (neither long tight (if-done 13 (long || tight) (q .1)) .0))
+      (p .0, ltb-false mostSteps (length kept / 2) (neither long tight (if-done 13 (long || tight) (q .1)) .0))
 
 -- Writing
 pub told-none : (before : List ℕ) → Told [] before 0 before
@@ -264,11 +266,11 @@ told-one n (b ∷ before) h = record { counted = refl; put = refl }
 
 -- answers, and a marking behind them
 module _ (t : Table) (after : Marking) (judged-done : judged t after ≡ 0) (answers before now : List ℕ) (count : ℕ) (counted : length answers ≡ count)
-    (room : count + 512 ≤ length before) (now-is : now ≡ answers ++ drop count before) where
+    (room : count + longestMarking ≤ length before) (now-is : now ≡ answers ++ drop count before) where
   same-events : after .events ≡ t .events
   same-events = good t after judged-done .marking-good .same-events
 
-  few : t .events ≤ 64
+  few : t .events ≤ mostEvents
   few = good t after judged-done .table-good .few-events
 
   marking-done : markingNumber after ≡ 0
@@ -296,33 +298,34 @@ module _ (t : Table) (after : Marking) (judged-done : judged t after ≡ 0) (ans
       sized : length now ≡ count + length (drop count before)
       sized = rw now-is (length-append answers (drop count before) ∙ rw counted)
 
-  image-long : length (markingImage after) ≡ 8 * t .events
-  image-long = images-length after 0 (after .events) ∙ rw same-events
+  image-long : length (markingImage after) ≡ recordBytes * t .events
+  image-long = image-length after ∙ rw same-events
 
   pub told-behind : (put : List ℕ) → put ≡ writeMarking after (take (length now - count) (drop count now))
-      → Told (answers ++ markingImage after) before (count + 8 * t .events) (take count now ++ (put ++ drop (length now - count) (drop count now)))
+      → Told (answers ++ markingImage after) before (count + recordBytes * t .events) (take count now ++ (put ++ drop (length now - count) (drop count now)))
   told-behind put e = record { counted = bytes-long; put = bytes-put }
     where
-      total : length (answers ++ markingImage after) ≡ count + 8 * t .events
+      total : length (answers ++ markingImage after) ≡ count + recordBytes * t .events
       total = length-append answers (markingImage after) ∙ rw (counted, image-long)
 
-      bytes-long : count + 8 * t .events ≡ length (answers ++ markingImage after)
+      bytes-long : count + recordBytes * t .events ≡ length (answers ++ markingImage after)
       bytes-long = sym total
 
       granted : writeNumber after (length (drop count before)) ≡ 0
       granted = number-done after (length (drop count before)) marking-done (omega (arith, few, same-events, long, room))
 
-      put-is : put ≡ markingImage after ++ drop (8 * t .events) (drop count before)
+      put-is : put ≡ markingImage after ++ drop (recordBytes * t .events) (drop count before)
       put-is = e ∙ ap (writeMarking after) whole ∙ bytes-written after (drop count before) granted ∙ rw same-events
 
       bytes-put : take count now ++ (put ++ drop (length now - count) (drop count now))
           ≡ (answers ++ markingImage after) ++ drop (length (answers ++ markingImage after)) before
       bytes-put =
-          rw (nothing-more, append-nil put, put-is, total, ← drop-drop (8 * t .events) count before)
-          (rw now-is (rw (take-at answers (drop count before) count counted) (sym (append-assoc answers (markingImage after) (drop (8 * t .events) (drop count before))))))
+          rw (nothing-more, append-nil put, put-is, total, ← drop-drop (recordBytes * t .events) count before)
+          (rw now-is (rw (take-at answers (drop count before) count counted)
+          (sym (append-assoc answers (markingImage after) (drop (recordBytes * t .events) (drop count before))))))
 
 -- steps that are granted: their answers, and the end marking behind them
-module _ (t : Table) (m : Marking) (kept before : List ℕ) (granted : byNumber t m kept (length kept) ≡ 0) (room : 4608 ≤ length before)
+module _ (t : Table) (m : Marking) (kept before : List ℕ) (granted : byNumber t m kept (length kept) ≡ 0) (room : longestOutput ≤ length before)
     (now : List ℕ) (now-is : now ≡ answersOf t m (stepsIn kept) ++ drop (length kept / 2) before) where
   abbrev count : ℕ
   count = length kept / 2
@@ -335,12 +338,12 @@ module _ (t : Table) (m : Marking) (kept before : List ℕ) (granted : byNumber 
 
   pub steps-told : (after : Marking) → after ≡ endOf t m (stepsIn kept)
       → (put : List ℕ) → put ≡ writeMarking after (take (length now - count) (drop count now))
-      → Told (afterMarking t m kept 0) before (count + 8 * t .events) (take count now ++ (put ++ drop (length now - count) (drop count now)))
+      → Told (afterMarking t m kept 0) before (count + recordBytes * t .events) (take count now ++ (put ++ drop (length now - count) (drop count now)))
   steps-told after e put f =
       let known = steps-granted t m kept granted in
       let bytes : answersOf t m (stepsIn kept) ++ markingImage after ≡ afterMarking t m kept 0 =
       ap (λ (k : Marking). answersOf t m (stepsIn kept) ++ markingImage k) e ∙ sym (steps-done t m kept granted) in
-      subst (λ (l : List ℕ). Told l before (count + 8 * t .events) (take count now ++ (put ++ drop (length now - count) (drop count now)))) bytes
+      subst (λ (l : List ℕ). Told l before (count + recordBytes * t .events) (take count now ++ (put ++ drop (length now - count) (drop count now)))) bytes
       (told-behind t after (subst (λ (k : Marking). judged t k ≡ 0) (sym e) (end-judged t m (stepsIn kept) (known .0)))
       (answersOf t m (stepsIn kept)) before now count counted (omega (arith, known .1, room)) now-is put f)
 

@@ -8,6 +8,7 @@ use borrow.Author.Tests.{not-true, not-false}
 use lib.ListN.{length}
 use Rattle.rules.specs.Numbers.{firstOf}
 use Rattle.rules.specs.EventSet.{setOf}
+use Rattle.rules.specs.Holds.{mostRelations}
 use Rattle.rules.specs.Judge.{eventsFit}
 use Rattle.rules.specs.Image.{eventsIn, relationsIn, headerSpare, tableLength}
 use Rattle.rules.specs.Laws.Fit.{fit-few}
@@ -71,7 +72,7 @@ returns-4 c =
     c .refused4 .ensures
     ∙ ends-relations _ (c .before .before .before .before .before .before .if1 .left) (clear (c .before .before .before .before)) (fit (c .before .before)) (rw (relations (c .before .before .before .before .before)) at (c .before .if4 .taken))
 
-few : (c : tie.Else4) → relationsIn (c .before .before .before .before .before .before .before .args .image .now) ≤ 256
+few : (c : tie.Else4) → relationsIn (c .before .before .before .before .before .before .before .args .image .now) ≤ mostRelations
 few c = rw (relations (c .before .before .before .before)) at (c .if4 .left)
 
 add-if5 : tie.Need-add-if5

@@ -7,7 +7,7 @@ use Prim.Native.Nat.{ℕ, _/_, _%_, _^_, _<_, _≤_}
 use lib.Dec.{eqb}
 use Rattle.rules.specs.declared.Marking.{Marking}
 use Rattle.rules.specs.Numbers.{_if_}
-use Rattle.rules.specs.Holds.{recordOf}
+use Rattle.rules.specs.Holds.{mostEvents, recordOf}
 use Rattle.rules.specs.Fields.{field}
 use Rattle.rules.specs.Judge.{eventsFit, recordNumber, markingNumber}
 use Rattle.rules.specs.Image.{classBit, classSpare, relationSpare}
@@ -33,7 +33,7 @@ module _ (image : List ℕ) where
   relation-spare p = sym (last-part image p 46 2)
 
 -- a marking that is judged 'done'
-pub events-few : (m : Marking) → markingNumber m ≡ 0 → m .events ≤ 64
+pub events-few : (m : Marking) → markingNumber m ≡ 0 → m .events ≤ mostEvents
 unfolding markingNumber
 events-few m h = fit-few (m .events) (not-false _ (if-done 2 _ (both-done (3 if not (eventsFit (m .events))) _ h .0)))
 

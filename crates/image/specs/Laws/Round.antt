@@ -1,28 +1,29 @@
 -- A marking that is made of judged records is judged 'done', and the images of markings go round both ways. Assumes nothing.
-use mathlib.Core.Path.{_≡_, refl, sym, ap, ap₂, _∙_}
+use mathlib.Core.Path.{_≡_, refl, sym, ap, _∙_}
 use mathlib.Core.Bool.{true, not}
 use mathlib.Core.List.{List, [], _++_, append-nil}
-use Prim.Native.Nat.{ℕ, zero, suc, _+_, _-_, _*_, _<_, _≤_}
+use Prim.Native.Nat.{ℕ, _+_, _-_, _*_, _<_}
 use native.Mathlib.Nat.{mod-eq-of-lt, le-of-eq, zero-add}
 use native.Mathlib.Omega.{arith}
 use borrow.Author.Tests.{eq-eqb, eqb-true, not-false}
 use lib.Dec.{eqb}
 use lib.ListN.{length, getD, take, drop, replicate, List·getD-append}
-use lib.Seq.{ext-getD, take-all, take-add, drop-drop}
+use lib.Seq.{ext-getD, take-all}
 use Rattle.rules.specs.declared.Record.{Record}
 use Rattle.rules.specs.declared.Marking.{Marking}
 use Rattle.rules.specs.Counting.{places}
 use Rattle.rules.specs.Numbers.{_if_}
-use Rattle.rules.specs.Holds.{recordOf, emptyRecord}
+use Rattle.rules.specs.Holds.{mostEvents, recordOf, emptyRecord}
 use Rattle.rules.specs.Fields.{bytesOf}
 use Rattle.rules.specs.Judge.{eventsFit, recordNumber, markingNumber, markingNumberFor}
-use Rattle.rules.specs.Image.{recordAt, recordBit, recordImage, recordImages, markingImage, markingFrom, markingImageNumber, readMarking}
+use Rattle.rules.specs.Image.{recordBytes, recordAt, recordBit, eventImage, markingImage, markingFrom, markingImageNumber, readMarking}
 use Rattle.rules.specs.Laws.Counting.{length-places, places-at}
 use Rattle.rules.specs.Laws.Numbers.{if-done, both-done, first-each, first-done}
 use Rattle.rules.specs.Laws.Fields.{bytes-of-word, word-of-bytes}
+use Rattle.rules.specs.Laws.Pieces.{piece-byte, pieces-whole}
 use Rattle.image.specs.Words.{wordOfRecord}
 use Rattle.image.specs.Laws.Words.{room, word-fits, record-back, word-read}
-use Rattle.image.specs.Laws.Records.{image-word, images-length, images-byte}
+use Rattle.image.specs.Laws.Records.{image-word, records-sized, image-length}
 use Rattle.image.specs.Laws.Parts.{record-done}
 
 -- two lists by their places
@@ -36,7 +37,7 @@ places-same d f g n h =
 module _ (events : ℕ) (f : ℕ → Record) where
   pub record-from : (e : ℕ) → e < events → recordOf (markingFrom events f) e ≡ f e
   record-from e l =
-      List·getD-append (places events f) (replicate (64 - events) emptyRecord) emptyRecord e (rw (length-places f events) l)
+      List·getD-append (places events f) (replicate (mostEvents - events) emptyRecord) emptyRecord e (rw (length-places f events) l)
       ∙ places-at f events e emptyRecord l
 
   module _ (fit : eventsFit events ≡ true) (done : (e : ℕ) → e < events → recordNumber (f e) ≡ 0) where
@@ -52,7 +53,7 @@ module _ (events : ℕ) (f : ℕ → Record) where
 -- what an image that is read says
 pub record Readable (events : ℕ) (image : List ℕ) : Type 0 where
   pub fit : eventsFit events ≡ true
-  pub exact : length image ≡ 8 * events
+  pub exact : length image ≡ recordBytes * events
   pub done : (e : ℕ) → e < events → recordNumber (recordAt image (recordBit e)) ≡ 0
 
 module _ (events : ℕ) (image : List ℕ) where
@@ -60,17 +61,17 @@ module _ (events : ℕ) (image : List ℕ) where
   unfolding markingImageNumber
   readable h =
       let p = both-done (3 if not (eventsFit events)) _ h in
-      let q = both-done (1 if not (eqb (length image) (8 * events))) _ (p .1) in
+      let q = both-done (1 if not (eqb (length image) (recordBytes * events))) _ (p .1) in
       record {
         fit = not-false _ (if-done 2 _ (p .0));
-        exact = eqb-true (length image) (8 * events) (not-false _ (if-done 0 _ (q .0)));
+        exact = eqb-true (length image) (recordBytes * events) (not-false _ (if-done 0 _ (q .0)));
         done = λ e l. first-each (λ x. recordNumber (recordAt image (recordBit x))) events e (q .1) l;
       }
 
   pub readable-number : Readable events image → markingImageNumber events image ≡ 0
   unfolding markingImageNumber
   readable-number r =
-      rw (r .fit, eq-eqb (length image) (8 * events) (r .exact)) (first-done (λ x. recordNumber (recordAt image (recordBit x))) events (r .done))
+      rw (r .fit, eq-eqb (length image) (recordBytes * events) (r .exact)) (first-done (λ x. recordNumber (recordAt image (recordBit x))) events (r .done))
 
   pub reads-as : markingImageNumber events image ≡ 0
       → readMarking events image ≡ record { number = 0; marking = markingFrom events (λ e. recordAt image (recordBit e)) }
@@ -79,29 +80,19 @@ module _ (events : ℕ) (image : List ℕ) where
 
   -- the image of what is read is the image
   pub images-back : Readable events image → ((i : ℕ) → getD image i 0 < 256) → markingImage (markingFrom events (λ e. recordAt image (recordBit e))) ≡ image
-  unfolding recordImages
   images-back r bytes =
-      parts 0 events (le-of-eq (zero-add events)) ∙ take-all (8 * events) image (le-of-eq (r .exact))
+      pieces-whole (records-sized m) image 0 events part ∙ take-all (recordBytes * events) image (le-of-eq (r .exact))
     where
       m : Marking
       m = markingFrom events (λ e. recordAt image (recordBit e))
 
-      part : (at : ℕ) → at < events → recordImage (recordOf m at) ≡ take 8 (drop (8 * at) image)
-      part at l =
-          image-word (recordOf m at)
-          ∙ ap (λ (k : Record). bytesOf 8 (wordOfRecord k)) (record-from events (λ e. recordAt image (recordBit e)) at l)
-          ∙ ap (bytesOf 8) (word-read image (recordBit at))
-          ∙ bytes-of-word image bytes (8 * at) 8 (omega (arith, r .exact))
-
-      parts : (at n : ℕ) → at + n ≤ events → recordImages m at n ≡ take (8 * n) (drop (8 * at) image)
-      parts at zero l = refl
-      parts at (suc n) l =
-          let e : 8 * suc n ≡ 8 + 8 * n = omega arith in
-          let f : 8 * at + 8 ≡ 8 * suc at = omega arith in
-          let rest = drop-drop 8 (8 * at) image ∙ ap (λ (k : ℕ). drop k image) f in
-          ap₂ (λ (a b : List ℕ). a ++ b) (part at (omega arith)) (parts (suc at) n (omega arith) ∙ ap (take (8 * n)) (sym rest))
-          ∙ sym (take-add 8 (8 * n) (drop (8 * at) image))
-          ∙ ap (λ (k : ℕ). take k (drop (8 * at) image)) (sym e)
+      part : (e : ℕ) → e < events → eventImage m e ≡ take recordBytes (drop (0 + recordBytes * e) image)
+      part e l =
+          image-word (recordOf m e)
+          ∙ ap (λ (k : Record). bytesOf recordBytes (wordOfRecord k)) (record-from events (λ x. recordAt image (recordBit x)) e l)
+          ∙ ap (bytesOf recordBytes) (word-read image (recordBit e))
+          ∙ bytes-of-word image bytes (recordBytes * e) recordBytes (omega (arith, r .exact))
+          ∙ ap (λ (k : ℕ). take recordBytes (drop k image)) (sym (zero-add (recordBytes * e)))
 
 -- the image of a marking that is judged 'done' is read as its records
 module _ (m : Marking) (judged : markingNumber m ≡ 0) where
@@ -110,19 +101,19 @@ module _ (m : Marking) (judged : markingNumber m ≡ 0) where
       let r = recordOf m e in
       let done = record-done m judged e l in
       let word = wordOfRecord r in
-      let bytes : (i : ℕ) → i < 8 → getD (markingImage m) (8 * e + i) 0 ≡ getD (bytesOf 8 word) i 0 =
+      let bytes : (i : ℕ) → i < recordBytes → getD (markingImage m) (recordBytes * e + i) 0 ≡ getD (bytesOf recordBytes word) i 0 =
       λ i b.
-      ap (λ (l : List ℕ). getD l (8 * e + i) 0) (sym (append-nil (markingImage m)))
-      ∙ images-byte m [] 0 (m .events) e i l b
-      ∙ ap (λ (k : ℕ). getD (recordImage (recordOf m k)) i 0) (zero-add e)
+      ap (λ (l : List ℕ). getD l (recordBytes * e + i) 0) (sym (append-nil (markingImage m)))
+      ∙ piece-byte (records-sized m) [] 0 (m .events) e i l b
+      ∙ ap (λ (k : ℕ). getD (eventImage m k) i 0) (zero-add e)
       ∙ ap (λ (l : List ℕ). getD l i 0) (image-word r) in
       record-back (markingImage m) (recordBit e) r (room r done)
-      (word-of-bytes (markingImage m) (8 * e) 8 word bytes ∙ mod-eq-of-lt (word-fits r done))
+      (word-of-bytes (markingImage m) (recordBytes * e) recordBytes word bytes ∙ mod-eq-of-lt (word-fits r done))
 
   pub image-readable : Readable (m .events) (markingImage m)
   unfolding markingNumber
   image-readable = record {
     fit = not-false _ (if-done 2 _ (both-done (3 if not (eventsFit (m .events))) _ judged .0));
-    exact = images-length m 0 (m .events);
+    exact = image-length m;
     done = λ e l. ap recordNumber (record-again e l) ∙ record-done m judged e l;
   }

@@ -9,7 +9,7 @@ use lib.ListN.{length}
 use Rattle.rules.specs.declared.TableAnswer.{TableAnswer}
 use Rattle.rules.specs.Numbers.{firstOf}
 use Rattle.rules.specs.EventSet.{setOf}
-use Rattle.rules.specs.Holds.{emptyTable}
+use Rattle.rules.specs.Holds.{mostRelations, emptyTable}
 use Rattle.rules.specs.Fields.{field}
 use Rattle.rules.specs.Judge.{eventsFit}
 use Rattle.rules.specs.Image.{eventsIn, relationsIn, headerSpare, tableLength, tableImageNumber, tableIn, readTable}
@@ -45,14 +45,14 @@ module _ (image : List ℕ) where
       ends-events h = rw (le-ltb (length image) 4 long, clear, h)
 
       module _ (fit : eventsFit (eventsIn image) ≡ true) where
-        pub ends-relations : 256 < relationsIn image → refusedWith 3 ≡ readTable image
+        pub ends-relations : mostRelations < relationsIn image → refusedWith 3 ≡ readTable image
         unfolding readTable tableImageNumber
-        ends-relations h = rw (le-ltb (length image) 4 long, clear, fit, lt-leb (relationsIn image) 256 h)
+        ends-relations h = rw (le-ltb (length image) 4 long, clear, fit, lt-leb (relationsIn image) mostRelations h)
 
-        module _ (few : relationsIn image ≤ 256) where
+        module _ (few : relationsIn image ≤ mostRelations) where
           pub ends-length : (length image ≡ tableLength (eventsIn image) (relationsIn image) → ⊥) → refusedWith 1 ≡ readTable image
           unfolding readTable tableImageNumber
-          ends-length h = rw (le-ltb (length image) 4 long, clear, fit, le-leb (relationsIn image) 256 few, ne-eqb (length image) _ h)
+          ends-length h = rw (le-ltb (length image) 4 long, clear, fit, le-leb (relationsIn image) mostRelations few, ne-eqb (length image) _ h)
 
           module _ (exact : length image ≡ tableLength (eventsIn image) (relationsIn image)) where
             pub ends-classes : (number : ℕ) → firstOf (eventsIn image) (classNumber image) ≡ number → (number ≡ 0 → ⊥)
@@ -60,10 +60,18 @@ module _ (image : List ℕ) where
             unfolding readTable tableImageNumber
             ends-classes zero e h = absurd (h refl)
             ends-classes (suc number) e h =
-                rw (le-ltb (length image) 4 long, clear, fit, le-leb (relationsIn image) 256 few, eq-eqb (length image) _ exact, e, ne-eqb (suc number) 0 h)
+                rw (
+                  le-ltb (length image) 4 long,
+                  clear,
+                  fit,
+                  le-leb (relationsIn image) mostRelations few,
+                  eq-eqb (length image) _ exact,
+                  e,
+                  ne-eqb (suc number) 0 h,
+                )
 
             pub ends-relation : firstOf (eventsIn image) (classNumber image) ≡ 0
                 → relationsRead image (eventsIn image) (relationsIn image) (setOf (eventsIn image) (isControllableIn image)) (setOf (eventsIn image) (isCausableIn image))
                 ≡ readTable image
             unfolding readTable tableImageNumber tableIn
-            ends-relation e = rw (le-ltb (length image) 4 long, clear, fit, le-leb (relationsIn image) 256 few, eq-eqb (length image) _ exact, e)
+            ends-relation e = rw (le-ltb (length image) 4 long, clear, fit, le-leb (relationsIn image) mostRelations few, eq-eqb (length image) _ exact, e)

@@ -13,7 +13,7 @@ use Rattle.rules.specs.declared.Table.{Table}
 use Rattle.rules.specs.declared.Record.{Record}
 use Rattle.rules.specs.declared.Marking.{Marking}
 use Rattle.rules.specs.Counting.{some, eachBelow}
-use Rattle.rules.specs.Holds.{isResponse, isInclusion, isExclusion, emptyRecord, relationOf, recordOf, withRecords}
+use Rattle.rules.specs.Holds.{mostEvents, isResponse, isInclusion, isExclusion, emptyRecord, relationOf, recordOf, withRecords}
 use Rattle.rules.specs.Judge.{eventsFit, tableNumber, recordFits, recordNumber, markingNumber, markingNumberFor, judged}
 use Rattle.rules.specs.Effect.{Deadline, within, eventually, deadlineOf, isPending, isBounded, leads, excludes, includes, response, effectAt, effect}
 use Rattle.rules.specs.Time.{later, time}
@@ -208,7 +208,8 @@ again t m n h same fits =
     let p = both-done (tableNumber t) (markingNumberFor (t .events) m) h in
     let g = good t m h in
     let events : m .events ≡ t .events = g .marking-good .same-events in
-    let few : eventsFit (t .events) ≡ true = join (le-leb 1 (t .events) (g .table-good .some-events)) (le-leb (t .events) 64 (g .table-good .few-events)) in
+    let few : eventsFit (t .events) ≡ true =
+    join (le-leb 1 (t .events) (g .table-good .some-events)) (le-leb (t .events) mostEvents (g .table-good .few-events)) in
     rw (p .0, few, same ∙ events, eq-eqb (t .events) (t .events) refl, few)
     (first-done (λ e. recordNumber (recordOf n e)) (t .events)
     (λ x b. if-kept 7 (ap not (fits x (rw events b) (g .marking-good .records-fit x b)))))

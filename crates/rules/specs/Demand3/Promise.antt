@@ -11,7 +11,7 @@ use Rattle.rules.specs.declared.Table.{Table}
 use Rattle.rules.specs.declared.Marking.{Marking}
 use Rattle.rules.specs.declared.CheckAnswer.the-variants.{Accepts}
 use Rattle.rules.specs.EventSet.{has}
-use Rattle.rules.specs.Holds.{isCausable}
+use Rattle.rules.specs.Holds.{mostEvents, isCausable}
 use Rattle.rules.specs.Enabled.{isEnabled}
 use Rattle.rules.specs.Effect.{effect}
 use Rattle.rules.specs.Time.{anyDue, time}
@@ -32,8 +32,8 @@ pub record Promise (t : Table) (m : Marking) : Type 0 where
   -- it is not refused, and lists the caused events; then time passes
   pub not-refused : guardedTick t m .number ≡ 0
   pub counted : guardedTick t m .count ≡ length (caused t m)
-  pub listed : guardedTick t m .caused ≡ caused t m ++ replicate (64 - length (caused t m)) 0
-  pub room : length (caused t m) ≤ 64
+  pub listed : guardedTick t m .caused ≡ caused t m ++ replicate (mostEvents - length (caused t m)) 0
+  pub room : length (caused t m) ≤ mostEvents
   pub passed : guardedTick t m .marking ≡ time (effects t m (caused t m))
   -- it causes nothing when nothing is due
   pub idle : anyDue m ≡ false → caused t m ≡ []

@@ -10,7 +10,7 @@ use Rattle.rules.specs.declared.Table.{Table}
 use Rattle.rules.specs.declared.Record.{Record}
 use Rattle.rules.specs.declared.Marking.{Marking}
 use Rattle.rules.specs.Numbers.{_if_, _else_}
-use Rattle.rules.specs.Holds.{limit, isCondition, isResponse, relationOf, recordOf}
+use Rattle.rules.specs.Holds.{limit, mostEvents, mostRelations, isCondition, isResponse, relationOf, recordOf}
 use Rattle.rules.specs.Judge.{eventsFit, relationsFit, timeFits, relationNumber, tableNumber, recordFits, recordNumber, markingNumber, markingNumberFor, judged}
 use Rattle.rules.specs.Laws.Tests.{both, not-false, not-true}
 use Rattle.rules.specs.Laws.Numbers.{if-done, both-done, first-each}
@@ -26,8 +26,8 @@ pub record GoodRelation (events : ℕ) (k : Relation) : Type 0 where
 -- a table that is judged 'done'
 pub record GoodTable (t : Table) : Type 0 where
   pub some-events : 1 ≤ t .events
-  pub few-events : t .events ≤ 64
-  pub few-relations : t .count ≤ 256
+  pub few-events : t .events ≤ mostEvents
+  pub few-relations : t .count ≤ mostRelations
   pub relations-good : (k : ℕ) → k < t .count → GoodRelation (t .events) (relationOf t k)
 
 -- a marking for so many events that is judged 'done'
@@ -63,11 +63,11 @@ good-table t h =
     let counts-ok = eventsFit (t .events) && relationsFit (t .count) in
     let p = both-done (3 if not counts-ok) _ h in
     let counts = both (eventsFit (t .events)) (relationsFit (t .count)) (not-false counts-ok (if-done 2 (not counts-ok) (p .0))) in
-    let events = both (leb 1 (t .events)) (leb (t .events) 64) (counts .0) in
+    let events = both (leb 1 (t .events)) (leb (t .events) mostEvents) (counts .0) in
     record {
       some-events = leb-true 1 (t .events) (events .0);
-      few-events = leb-true (t .events) 64 (events .1);
-      few-relations = leb-true (t .count) 256 (counts .1);
+      few-events = leb-true (t .events) mostEvents (events .1);
+      few-relations = leb-true (t .count) mostRelations (counts .1);
       relations-good = λ k b. good-relation (t .events) (relationOf t k) (first-each (λ k. relationNumber (t .events) (relationOf t k)) (t .count) k (p .1) b);
     }
 

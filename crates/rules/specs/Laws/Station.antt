@@ -12,6 +12,7 @@ use lib.ListN.{length, take, drop, length-take, length-drop}
 use lib.Seq.{take-all, take-take, take-nil, drop-nil, getD-take}
 use borrow.Author.Tests.{eqb-true, eqb-false, leb-true, leb-false, ltb-false, ne-eqb}
 use Rattle.rules.specs.Numbers.{_if_, _else_, done}
+use Rattle.rules.specs.Holds.{mostEvents, mostRelations}
 use Rattle.rules.specs.Fields.{field}
 use Rattle.rules.specs.Judge.{eventsFit, relationsFit, judged}
 use Rattle.rules.specs.Image.{eventsIn, relationsIn, headerSpare, tableLength, tableImageNumber, tableIn, readTable, recordBytes, markingImageNumber, readMarking, markingImage}
@@ -20,10 +21,20 @@ use Rattle.rules.specs.Station.{station}
 use Rattle.rules.specs.Laws.Fields.{field-lt}
 use Rattle.rules.specs.Laws.Tests.{decide, both, not-false, neither}
 use Rattle.rules.specs.Laws.Numbers.{if-done, both-done}
+use Rattle.rules.specs.Laws.Fit.{fit-few}
 
--- the longest table, marking and steps that are granted, and an input of them
+-- the longest table, marking and steps that are granted, in bytes, and an input of them
+abbrev pub longestTable : ℕ
+longestTable = tableLength mostEvents mostRelations
+
+abbrev pub longestMarking : ℕ
+longestMarking = recordBytes * mostEvents
+
+abbrev pub longestSteps : ℕ
+longestSteps = 2 * mostSteps
+
 abbrev pub longest : ℕ
-longest = 1604 + 512 + 2 * mostSteps
+longest = longestTable + longestMarking + longestSteps
 
 -- a field that ends within the first n bytes is one of these bytes
 pub field-take : (image : List ℕ) (n p width : ℕ) → p + width ≤ 8 * n → field (take n image) p width ≡ field image p width
@@ -76,7 +87,7 @@ unfolding station numberOf
 station-is input = refl
 
 -- What is granted is short.
-pub table-short : (image : List ℕ) → readTable image .number ≡ 0 → length image ≤ 1604
+pub table-short : (image : List ℕ) → readTable image .number ≡ 0 → length image ≤ longestTable
 unfolding readTable tableImageNumber
 table-short image h =
     let n = eventsIn image in
@@ -88,14 +99,14 @@ table-short image h =
     let c = both-done (3 if not counts) _ (b .1) in
     let d = both-done (1 if not whole) _ (c .1) in
     let fit = both (eventsFit n) (relationsFit relations) (not-false counts (if-done 2 (not counts) (c .0))) in
-    let few = both (leb 1 n) (leb n 64) (fit .0) in
-    let e : length image ≡ 4 + n + 6 * relations = eqb-true (length image) (tableLength n relations) (not-false whole (if-done 0 (not whole) (d .0))) in
-    let l : n ≤ 64 = leb-true n 64 (few .1) in
-    let k : relations ≤ 256 = leb-true relations 256 (fit .1) in
+    let e : length image ≡ tableLength n relations = eqb-true (length image) (tableLength n relations) (not-false whole (if-done 0 (not whole) (d .0))) in
+    let l : n ≤ mostEvents = fit-few n (fit .0) in
+    let k : relations ≤ mostRelations = leb-true relations mostRelations (fit .1) in
     omega arith
 
 -- the events of a table that is read are its header's, and few
-pub table-events : (image : List ℕ) → readTable image .number ≡ 0 → (readTable image .table .events ≡ eventsIn image) × (eventsIn image ≤ 64)
+pub table-events : (image : List ℕ) → readTable image .number ≡ 0
+    → (readTable image .table .events ≡ eventsIn image) × (eventsIn image ≤ mostEvents)
 unfolding readTable tableImageNumber tableIn
 table-events image h =
     let n = eventsIn image in
@@ -104,20 +115,19 @@ table-events image h =
     let b = both-done (2 if not (eqb (headerSpare image) 0)) _ (a .1) in
     let c = both-done (3 if not counts) _ (b .1) in
     let fit = both (eventsFit n) (relationsFit (relationsIn image)) (not-false counts (if-done 2 (not counts) (c .0))) in
-    (rw h, leb-true n 64 (both (leb 1 n) (leb n 64) (fit .0) .1))
+    (rw h, fit-few n (fit .0))
 
-pub marking-short : (events : ℕ) (image : List ℕ) → readMarking events image .number ≡ 0 → length image ≤ 512
+pub marking-short : (events : ℕ) (image : List ℕ) → readMarking events image .number ≡ 0 → length image ≤ longestMarking
 unfolding readMarking markingImageNumber
 marking-short events image h =
     let whole = eqb (length image) (recordBytes * events) in
     let a = both-done (3 if not (eventsFit events)) _ h in
     let b = both-done (1 if not whole) _ (a .1) in
-    let few = both (leb 1 events) (leb events 64) (not-false (eventsFit events) (if-done 2 (not (eventsFit events)) (a .0))) in
-    let e : length image ≡ 8 * events = eqb-true (length image) (recordBytes * events) (not-false whole (if-done 0 (not whole) (b .0))) in
-    let l : events ≤ 64 = leb-true events 64 (few .1) in
+    let e : length image ≡ recordBytes * events = eqb-true (length image) (recordBytes * events) (not-false whole (if-done 0 (not whole) (b .0))) in
+    let l : events ≤ mostEvents = fit-few events (not-false (eventsFit events) (if-done 2 (not (eventsFit events)) (a .0))) in
     omega arith
 
-steps-short : (steps : ℕ) → (1 if eqb (steps % 2) 1 else traceNumber (steps / 2) (steps / 2)) ≡ 0 → steps ≤ 2 * mostSteps
+steps-short : (steps : ℕ) → (1 if eqb (steps % 2) 1 else traceNumber (steps / 2) (steps / 2)) ≡ 0 → steps ≤ longestSteps
 unfolding traceNumber
 steps-short steps h =
     let long = ltb mostSteps (steps / 2) in

@@ -5,6 +5,7 @@ use Prim.Native.Nat.{ℕ, _≤_, _/_}
 use native.Mathlib.Omega.{arith}
 use lib.ListN.{length, set}
 use Rattle.rules.specs.Judge.{judged}
+use Rattle.rules.specs.Trace.{mostSteps}
 use Rattle.rules.specs.Laws.Judge.{good}
 use Rattle.engine.specs.Heard.{Told, afterMarking}
 use Rattle.engine.specs.Laws.Heard.{steps-long, steps-refused, steps-granted, still-long, steps-told, told-one}
@@ -13,7 +14,7 @@ use Rattle.engine.proofs.heard.after_marking.Statement.{statement}
 use Rattle.engine.proofs.heard.after_marking.Tie as tie
 
 -- what the tests of the steps' number told
-told : (c : tie.Else2) → (judged (c .before .before .before .before .before .args .t) (c .before .before .before .before .before .args .m) ≡ 0) × (length (c .before .before .before .before .before .args .steps .now) / 2 ≤ 4096)
+told : (c : tie.Else2) → (judged (c .before .before .before .before .before .args .t) (c .before .before .before .before .before .args .m) ≡ 0) × (length (c .before .before .before .before .before .args .steps .now) / 2 ≤ mostSteps)
 told c = let a = c .before .before .before .before .before .args in steps-granted (a .t) (a .m) (a .steps .now) (sym (c .before .bytes-number .ensures) ∙ c .if2 .left)
 
 -- the output is as long as it was

@@ -15,28 +15,33 @@ use Rattle.image.proofs.bits.put_word.Statement.{statement}
 use Rattle.image.proofs.bits.put_word.Tie as tie
 
 abbrev Inv-loop : tie.InvT-loop
-Inv-loop buffer₀ at v i₀ buffer i = (i ≤ 8) × (buffer ≡ paste buffer₀ at (bytesOf 8 v) i)
+Inv-loop buffer₀ at count v i₀ buffer i = (i ≤ count) × (buffer ≡ paste buffer₀ at (bytesOf count v) i)
 
 abbrev μ-loop : tie.MeasureT-loop
-μ-loop buffer₀ at v i₀ buffer i = 8 - i
+μ-loop buffer₀ at count v i₀ buffer i = count - i
 
 -- the buffer keeps its length
-long : (buffer : List ℕ) (at v i : ℕ) → at + 8 ≤ length buffer → i ≤ 8 → length (paste buffer at (bytesOf 8 v) i) ≡ length buffer
-long buffer at v i h l = length-paste buffer at (bytesOf 8 v) i (omega arith) (rw (length-bytes 8 v) l)
+long : (buffer : List ℕ) (at count v i : ℕ) → at + count ≤ length buffer → i ≤ count
+    → length (paste buffer at (bytesOf count v) i) ≡ length buffer
+long buffer at count v i h l = length-paste buffer at (bytesOf count v) i (omega arith) (rw (length-bytes count v) l)
 
 -- a turn
-more : (buffer : List ℕ) (at v i : ℕ) → at + 8 ≤ length buffer → i < 8
-    → set (paste buffer at (bytesOf 8 v) i) (at + i) (v / 2 ^ (8 * (7 - i)) % 256) ≡ paste buffer at (bytesOf 8 v) (i + 1)
-more buffer at v i h l =
-    let e : 8 - suc i ≡ 7 - i = omega arith in
-    let byte : getD (bytesOf 8 v) i 0 ≡ v / 2 ^ (8 * (7 - i)) % 256 = byte-of 8 v i l ∙ ap (λ (k : ℕ). v / 2 ^ (8 * k) % 256) e in
-    rw (← byte, add-one) (paste-suc buffer at (bytesOf 8 v) i 0 (omega arith) (rw (length-bytes 8 v) l))
+more : (buffer : List ℕ) (at count v i : ℕ) → at + count ≤ length buffer → i < count
+    → set (paste buffer at (bytesOf count v) i) (at + i) (v / 2 ^ (8 * (count - 1 - i)) % 256) ≡ paste buffer at (bytesOf count v) (i + 1)
+more buffer at count v i h l =
+    let e : count - suc i ≡ count - 1 - i = omega arith in
+    let byte : getD (bytesOf count v) i 0 ≡ v / 2 ^ (8 * (count - 1 - i)) % 256 =
+    byte-of count v i l ∙ ap (λ (k : ℕ). v / 2 ^ (8 * k) % 256) e in
+    rw (← byte, add-one) (paste-suc buffer at (bytesOf count v) i 0 (omega arith) (rw (length-bytes count v) l))
 
 loop-holds : tie.Need-loop-holds Inv-loop μ-loop
-loop-holds c = (search needs, paste-zero _ (c .args .at) (bytesOf 8 (c .args .v)))
+loop-holds c = (search needs, paste-zero _ (c .args .at) (bytesOf (c .args .count) (c .args .v)))
 
 sub-buffer : tie.Need-sub-buffer Inv-loop μ-loop
 sub-buffer c = omega arith
+
+sub-buffer-2 : tie.Need-sub-buffer-2 Inv-loop μ-loop
+sub-buffer-2 c = omega arith
 
 mul-buffer : tie.Need-mul-buffer Inv-loop μ-loop
 mul-buffer c = omega arith
@@ -51,7 +56,7 @@ add-buffer : tie.Need-add-buffer Inv-loop μ-loop
 add-buffer c = omega arith
 
 slice-write-buffer : tie.Need-slice-write-buffer Inv-loop μ-loop
-slice-write-buffer c = rw (c .before .loop .inv .1, long _ _ _ _ (c .before .before .pre) (c .before .loop .inv .0)) (omega arith)
+slice-write-buffer c = rw (c .before .loop .inv .1, long _ _ _ _ _ (c .before .before .pre .0) (c .before .loop .inv .0)) (omega arith)
 
 add-i : tie.Need-add-i Inv-loop μ-loop
 add-i c = omega arith
@@ -60,16 +65,16 @@ loop-less : tie.Need-loop-less Inv-loop μ-loop
 loop-less c = omega arith
 
 loop-again : tie.Need-loop-again Inv-loop μ-loop
-loop-again c = (omega arith, rw (c .before .loop .inv .1) (more _ _ _ _ (c .before .before .pre) (c .loop-test .taken)))
+loop-again c = (omega arith, rw (c .before .loop .inv .1) (more _ _ _ _ _ (c .before .before .pre .0) (c .loop-test .taken)))
 
 same-length : tie.Need-same-length Inv-loop μ-loop
-same-length c = rw (c .before .loop .inv .1) (long _ _ _ _ (c .before .before .pre) (c .before .loop .inv .0))
+same-length c = rw (c .before .loop .inv .1) (long _ _ _ _ _ (c .before .before .pre .0) (c .before .loop .inv .0))
 
 returns : tie.Need-returns Inv-loop μ-loop
 returns c =
-    let e : c .before .loop .i ≡ 8 = omega arith in
-    c .before .loop .inv .1
-    ∙ rw (e, take-all 8 (bytesOf 8 (c .before .before .args .v)) (le-of-eq (length-bytes 8 (c .before .before .args .v))))
+    let a = c .before .before .args in
+    let e : c .before .loop .i ≡ a .count = omega arith in
+    c .before .loop .inv .1 ∙ rw (e, take-all (a .count) (bytesOf (a .count) (a .v)) (le-of-eq (length-bytes (a .count) (a .v))))
 
 pub put-word-spec : {M : Type 1} → statement M
 put-word-spec =
@@ -79,6 +84,7 @@ put-word-spec =
     μ-loop
     loop-holds
     sub-buffer
+    sub-buffer-2
     mul-buffer
     shr-buffer
     cast-buffer

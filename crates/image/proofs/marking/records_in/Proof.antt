@@ -11,7 +11,7 @@ use Rattle.rules.specs.declared.Marking.{Marking}
 use Rattle.rules.specs.declared.Record.{Record}
 use Rattle.rules.specs.Counting.{places}
 use Rattle.rules.specs.Numbers.{firstOf}
-use Rattle.rules.specs.Holds.{emptyRecord}
+use Rattle.rules.specs.Holds.{mostEvents, emptyRecord}
 use Rattle.rules.specs.Judge.{recordNumber}
 use Rattle.rules.specs.Image.{recordAt, recordBit}
 use Rattle.rules.specs.Laws.Counting.{filled-none, filled-more}
@@ -30,7 +30,7 @@ numberIn image e = recordNumber (recordIn image e)
 abbrev Inv-loop : tie.InvT-loop
 Inv-loop events image records₀ i₀ records i =
     (i ≤ events)
-    × (records ≡ places i (recordIn image) ++ replicate (64 - i) emptyRecord)
+    × (records ≡ places i (recordIn image) ++ replicate (mostEvents - i) emptyRecord)
     × (firstOf i (numberIn image) ≡ 0)
 
 abbrev μ-loop : tie.MeasureT-loop
@@ -41,7 +41,7 @@ empty-requires c κs = search needs
 
 loop-holds : tie.Need-loop-holds Inv-loop μ-loop
 loop-holds c =
-    (search needs, ap (λ (m : Marking). m .records) (c .before .empty .ensures) ∙ filled-none _ emptyRecord 64, first-none _)
+    (search needs, ap (λ (m : Marking). m .records) (c .before .empty .ensures) ∙ filled-none _ emptyRecord mostEvents, first-none _)
 
 mul-word : tie.Need-mul-word Inv-loop μ-loop
 mul-word c = omega arith
@@ -87,7 +87,7 @@ loop-again : tie.Need-loop-again Inv-loop μ-loop
 loop-again c =
     let i = c .before .before .before .before .before .loop .i in (
       omega arith,
-      rw (c .before .before .before .before .before .loop .inv .1, read (c .before .before)) (filled-more (recordIn (c .before .before .before .before .before .before .before .before .before .args .image .now)) emptyRecord 64 i (omega arith)),
+      rw (c .before .before .before .before .before .loop .inv .1, read (c .before .before)) (filled-more (recordIn (c .before .before .before .before .before .before .before .before .before .args .image .now)) emptyRecord mostEvents i (omega arith)),
       first-more _ i (c .before .before .before .before .before .loop .inv .2) (sym (number (c .before)) ∙ c .if1 .left),
     )
 

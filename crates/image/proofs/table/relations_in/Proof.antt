@@ -11,7 +11,7 @@ use Rattle.rules.specs.declared.Relation.{Relation}
 use Rattle.rules.specs.declared.TableAnswer.{TableAnswer}
 use Rattle.rules.specs.Counting.{places}
 use Rattle.rules.specs.Numbers.{firstOf}
-use Rattle.rules.specs.Holds.{emptyRelation}
+use Rattle.rules.specs.Holds.{mostRelations, emptyRelation}
 use Rattle.rules.specs.Judge.{relationNumber}
 use Rattle.rules.specs.Image.{relationAt, relationBit, relationSpare, relationImageNumber}
 use Rattle.rules.specs.Laws.Counting.{filled-none, filled-more}
@@ -31,7 +31,7 @@ numberIn image events k = relationImageNumber image events (relationBit events k
 abbrev Inv-loop : tie.InvT-loop
 Inv-loop image events count controllable causable relations₀ i₀ relations i =
     (i ≤ count)
-    × (relations ≡ places i (relationIn image events) ++ replicate (256 - i) emptyRelation)
+    × (relations ≡ places i (relationIn image events) ++ replicate (mostRelations - i) emptyRelation)
     × (firstOf i (numberIn image events) ≡ 0)
 
 abbrev μ-loop : tie.MeasureT-loop
@@ -43,7 +43,7 @@ refused-requires c κs = search needs
 loop-holds : tie.Need-loop-holds Inv-loop μ-loop
 loop-holds c = (
   search needs,
-  ap (λ (a : TableAnswer). a .table .relations) (c .before .refused .ensures) ∙ filled-none _ emptyRelation 256,
+  ap (λ (a : TableAnswer). a .table .relations) (c .before .refused .ensures) ∙ filled-none _ emptyRelation mostRelations,
   first-none _,
 )
 
@@ -121,7 +121,7 @@ loop-again c =
     let i = c .before .before .before .before .before .before .loop .i in (
       omega arith,
       rw (c .before .before .before .before .before .before .loop .inv .1, read (c .before .before))
-          (filled-more (relationIn (c .before .before .before .before .before .before .before .before .before .before .args .image .now) (c .before .before .before .before .before .before .before .before .before .before .args .events)) emptyRelation 256 i (omega arith)),
+          (filled-more (relationIn (c .before .before .before .before .before .before .before .before .before .before .args .image .now) (c .before .before .before .before .before .before .before .before .before .before .args .events)) emptyRelation mostRelations i (omega arith)),
       first-more _ i (c .before .before .before .before .before .before .loop .inv .2) (sym (number (c .before)) ∙ c .if2 .left),
     )
 

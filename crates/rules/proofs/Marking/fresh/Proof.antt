@@ -8,7 +8,7 @@ use borrow.Author.Tests.{le-leb, lt-leb}
 use lib.ListN.{replicate}
 use Rattle.rules.specs.declared.Marking.{Marking}
 use Rattle.rules.specs.Counting.{places}
-use Rattle.rules.specs.Holds.{emptyRecord}
+use Rattle.rules.specs.Holds.{mostEvents, emptyRecord}
 use Rattle.rules.specs.Image.{fresh, freshRecord}
 use Rattle.rules.specs.Laws.Counting.{filled-none, filled-more}
 use Rattle.rules.proofs.Marking.fresh.Statement.{statement}
@@ -18,7 +18,7 @@ abbrev Inv-loop : tie.InvT-loop
 Inv-loop events ready records₀ i₀ records i =
     (i ≤ events)
     × (ready ≡ freshRecord)
-    × (records ≡ places i (λ e. freshRecord) ++ replicate (64 - i) emptyRecord)
+    × (records ≡ places i (λ e. freshRecord) ++ replicate (mostEvents - i) emptyRecord)
 
 abbrev μ-loop : tie.MeasureT-loop
 μ-loop events ready records₀ i₀ records i = events - i
@@ -42,7 +42,7 @@ empty-requires c κs = search needs
 
 loop-holds : tie.Need-loop-holds Inv-loop μ-loop
 loop-holds c =
-    (search needs, refl, ap (λ (m : Marking). m .records) (c .before .empty .ensures) ∙ filled-none _ emptyRecord 64)
+    (search needs, refl, ap (λ (m : Marking). m .records) (c .before .empty .ensures) ∙ filled-none _ emptyRecord mostEvents)
 
 mul-records : tie.Need-mul-records Inv-loop μ-loop
 mul-records c = omega arith
@@ -60,7 +60,7 @@ loop-again : tie.Need-loop-again Inv-loop μ-loop
 loop-again c = (
   omega arith,
   refl,
-  rw (c .before .loop .inv .2) (filled-more (λ e. freshRecord) emptyRecord 64 (c .before .loop .i) (omega arith)),
+  rw (c .before .loop .inv .2) (filled-more (λ e. freshRecord) emptyRecord mostEvents (c .before .loop .i) (omega arith)),
 )
 
 returns-3 : tie.Need-returns-3 Inv-loop μ-loop
