@@ -19,11 +19,6 @@ use Rattle.rules.specs.Laws.Station.{longestMarking, longest}
 abbrev pub longestOutput : ℕ
 longestOutput = mostSteps + longestMarking
 
--- the bytes are put at the start of what was before, and counted
-pub record Told (bytes before : List ℕ) (count : ℕ) (after : List ℕ) : Type 0 where
-  pub counted : count ≡ length bytes
-  pub put : after ≡ bytes ++ drop (length bytes) before
-
 -- The call is not for an output shorter than the longest, nor for bytes said to come after fewer kept ones than the longest input has
 unfoldable pub misused : ℕ → ℕ → ℕ → Bool
 misused kept beyond room = ltb room longestOutput || not (eqb beyond 0) && ltb kept longest

@@ -1,9 +1,4 @@
 -- What the inner functions of the engine promise, and that it amounts to the definitions.
-pub mod Reach
-pub mod Collect
-pub mod Derived
-pub mod Reasons
-pub mod Taking
 pub mod Trial
 pub mod Running
 pub mod Heard

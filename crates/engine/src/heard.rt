@@ -1,7 +1,7 @@
 // The station's input, part by part: a table as long as its header says, a marking, then steps to the end.
-use super::judge::judge;
-use super::trace::bytes_number;
-use super::trace::played;
+use crate::judge;
+use crate::trace::bytes_number;
+use crate::trace::played;
 use rules::Marking;
 use rules::Step;
 use rules::Table;
@@ -14,7 +14,8 @@ ghost use Rattle.rules.specs.Numbers.{_if_, _else_};
 ghost use Rattle.rules.specs.Holds.{mostEvents};
 ghost use Rattle.rules.specs.Judge.{judged};
 ghost use Rattle.rules.specs.Laws.Station.{longestMarking, longestSteps, tableBytes};
-ghost use Rattle.engine.specs.Heard.{longestOutput, Told, misused, afterTable, afterMarking};
+ghost use Rattle.engine.specs.Heard.{longestOutput, misused, afterTable, afterMarking};
+ghost use Rattle.duties.specs.Noted.{Told};
 
 // The longest table that is granted, in bytes.
 const TABLE: usize = 4 + Table::MOST_EVENTS + 6 * Table::MOST_RELATIONS;
@@ -66,7 +67,7 @@ pub fn table_part(input: &[u8]) -> usize
 fn long_number(t: Table, m: Marking, kept: usize, beyond: usize) -> u8
     ensures { λ r. ⌜ r ≡ (judged t m else 1 if eqb ((kept + beyond) % 2) 1 else 14) ⌝ }
 {
-    let number = judge(t, m);
+    let number = judge::then_marking(image::judge_table(t), t.events, m);
     if number == 0 {
         if (kept % 2 + beyond % 2) % 2 == 1 {
             return 1;

@@ -1,26 +1,28 @@
-// Judging what a call is handed: the table first, then the marking, then the event asked about.
+// Judging what a call is handed: the table first, then the marking, then the event asked about. A table is handed over once, to its own
+// judge, whose number is handed on.
 use rules::Marking;
-use rules::Table;
 ghost use mathlib.Core.Path.{_≡_};
-ghost use Rattle.rules.specs.Numbers.{_else_};
-ghost use Rattle.rules.specs.Judge.{judged, eventNumber};
+ghost use mathlib.Core.Bool.{not};
+ghost use lib.Dec.{ltb};
+ghost use Rattle.rules.specs.Numbers.{_if_, _else_};
+ghost use Rattle.rules.specs.Judge.{markingNumberFor};
 
-pub fn judge(t: Table, m: Marking) -> u8
-    ensures { λ r. ⌜ r ≡ judged t m ⌝ }
+// The number of the table, else that of the marking.
+pub fn then_marking(number: u8, events: usize, m: Marking) -> u8
+    ensures { λ r. ⌜ r ≡ (number else markingNumberFor events m) ⌝ }
 {
-    let number = image::judge_table(t);
     if number == 0 {
-        return image::judge_marking(t.events, m);
+        return image::judge_marking(events, m);
     }
     number
 }
 
-pub fn judge_event(t: Table, m: Marking, event: usize) -> u8
-    ensures { λ r. ⌜ r ≡ (judged t m else eventNumber t event) ⌝ }
+// The number so far, else that of the event.
+pub fn then_event(number: u8, events: usize, event: usize) -> u8
+    ensures { λ r. ⌜ r ≡ (number else 8 if not (ltb event events)) ⌝ }
 {
-    let number = judge(t, m);
     if number == 0 {
-        if event < t.events {
+        if event < events {
             return 0;
         }
         return 8;

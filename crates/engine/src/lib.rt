@@ -1,27 +1,25 @@
 // The engine's public calls. Each judges the decoded table, then the marking, then its own numbers, and promises its definition in the
 // crate `rules`, whole.
-mod ask;
-mod blocking;
-mod collect;
-mod derived;
-mod effect;
-mod enabling;
-mod event_set;
-mod guard;
+mod asking;
 mod heard;
-mod inhibition;
 mod judge;
-mod reasons;
+mod refusing;
 mod remedy;
-mod time;
 mod trace;
-mod waiting;
-mod word;
 
+use acts::derived;
+use acts::enabling;
+use acts::event_set;
+use acts::laid;
+use acts::time;
+use acts::waiting;
+use duties::guard;
+use duties::reasons;
 use rules::CheckAnswer;
 use rules::EnabledAnswer;
 use rules::GuardedAnswer;
 use rules::HoldUpAnswer;
+use rules::LONGEST_LIST;
 use rules::MarginAnswer;
 use rules::Marking;
 use rules::MarkingAnswer;
@@ -42,27 +40,29 @@ ghost use Rattle.rules.specs.Check.{check};
 ghost use Rattle.rules.specs.Guard.{guardedTick};
 ghost use Rattle.rules.specs.Remedy.{remedy, stretch};
 ghost use Rattle.rules.specs.Trace.{run, runAnswers, runBytes, runBytesAnswers};
-ghost use Rattle.engine.specs.Heard.{Told, written};
+ghost use Rattle.engine.specs.Heard.{written};
+ghost use Rattle.duties.specs.Noted.{Told};
 
 // How many events a set holds.
 pub fn size(set: u64) -> u32
     ensures { λ r. ⌜ r ≡ sizeOf set ⌝ }
 {
-    u64::count_ones(set)
+    event_set::size(set)
 }
 
 // The lowest event of a set, 64 for none.
 pub fn lowest(set: u64) -> u32
     ensures { λ r. ⌜ r ≡ lowestOf set ⌝ }
 {
-    u64::trailing_zeros(set)
+    event_set::lowest(set)
 }
 
 // Whether an event is enabled.
 pub fn enabled(t: Table, m: Marking, event: usize) -> EnabledAnswer
     ensures { λ r. ⌜ r ≡ enabledAnswer t m event ⌝ }
 {
-    let number = judge::judge_event(t, m, event);
+    let judged = judge::then_marking(image::judge_table(t), t.events, m);
+    let number = judge::then_event(judged, t.events, event);
     if number == 0 {
         let enabled = enabling::is_enabled(t, m, event);
         return EnabledAnswer { number: 0, enabled };
@@ -77,9 +77,12 @@ pub fn enabled(t: Table, m: Marking, event: usize) -> EnabledAnswer
 pub fn due(t: Table, m: Marking) -> SetAnswer
     ensures { λ r. ⌜ r ≡ dueAnswer t m ⌝ }
 {
-    let number = judge::judge(t, m);
+    let number = judge::then_marking(image::judge_table(t), t.events, m);
     if number == 0 {
-        let set = time::due_set(m);
+        let mut sets = [0; 4];
+        let mut columns = [0; 128];
+        laid::lay(m, &mut sets, &mut columns);
+        let set = time::due(0, &sets, &columns, t.events);
         return SetAnswer { number: 0, set };
     }
     SetAnswer { number, set: 0 }
@@ -89,23 +92,44 @@ pub fn due(t: Table, m: Marking) -> SetAnswer
 pub fn request(t: Table, m: Marking, event: usize) -> MarkingAnswer
     ensures { λ r. ⌜ r ≡ request t m event ⌝ }
 {
-    ask::ask(t, m, event, true)
+    let number = judge::then_marking(image::judge_table(t), t.events, m);
+    if number == 0 {
+        return asking::asked(t, m, event, true);
+    }
+    MarkingAnswer { number, marking: m }
 }
 
 // An uncontrollable event is executed, if enabled.
 pub fn report(t: Table, m: Marking, event: usize) -> MarkingAnswer
     ensures { λ r. ⌜ r ≡ report t m event ⌝ }
 {
-    ask::ask(t, m, event, false)
+    let number = judge::then_marking(image::judge_table(t), t.events, m);
+    if number == 0 {
+        return asking::asked(t, m, event, false);
+    }
+    MarkingAnswer { number, marking: m }
 }
 
 // One tick passes, unless an event is due.
 pub fn plain_tick(t: Table, m: Marking) -> MarkingAnswer
     ensures { λ r. ⌜ r ≡ plainTick t m ⌝ }
 {
-    let number = judge::judge(t, m);
+    let number = judge::then_marking(image::judge_table(t), t.events, m);
     if number == 0 {
-        return time::ticked(m);
+        let mut sets = [0; 4];
+        let mut columns = [0; 128];
+        laid::lay(m, &mut sets, &mut columns);
+        if time::due(0, &sets, &columns, t.events) == 0 {
+            let after = laid::give(m, time::tick(0), &sets, &columns);
+            return MarkingAnswer {
+                number: 0,
+                marking: after,
+            };
+        }
+        return MarkingAnswer {
+            number: 11,
+            marking: m,
+        };
     }
     MarkingAnswer { number, marking: m }
 }
@@ -114,7 +138,7 @@ pub fn plain_tick(t: Table, m: Marking) -> MarkingAnswer
 pub fn margin(t: Table, m: Marking, relation: usize) -> MarginAnswer
     ensures { λ r. ⌜ r ≡ margin t m relation ⌝ }
 {
-    let number = judge::judge(t, m);
+    let number = judge::then_marking(image::judge_table(t), t.events, m);
     if number == 0 {
         if relation < t.count {
             let k = t.relations[relation];
@@ -131,7 +155,8 @@ pub fn margin(t: Table, m: Marking, relation: usize) -> MarginAnswer
 pub fn hold_up(t: Table, m: Marking, event: usize) -> HoldUpAnswer
     ensures { λ r. ⌜ r ≡ holdUp t m event ⌝ }
 {
-    let number = judge::judge_event(t, m, event);
+    let judged = judge::then_marking(image::judge_table(t), t.events, m);
+    let number = judge::then_event(judged, t.events, event);
     if number == 0 {
         return enabling::holding(t, m, event);
     }
@@ -142,14 +167,16 @@ pub fn hold_up(t: Table, m: Marking, event: usize) -> HoldUpAnswer
 pub fn closure(t: Table, m: Marking) -> SetAnswer
     ensures { λ r. ⌜ r ≡ closureAnswer t m ⌝ }
 {
-    let number = judge::judge(t, m);
+    let number = judge::then_marking(image::judge_table(t), t.events, m);
     if number == 0 {
-        let rows = derived::derived(t);
-        let closed = reasons::closure(t, m, &rows);
-        return SetAnswer {
-            number: 0,
-            set: closed,
-        };
+        let mut rows = [0; 640];
+        let mut links = [0; 256];
+        let mut sets = [0; 4];
+        let mut columns = [0; 128];
+        derived::derived(t, &mut rows, &mut links);
+        laid::lay(m, &mut sets, &mut columns);
+        let set = reasons::closure(&rows, &sets, t.events);
+        return SetAnswer { number: 0, set };
     }
     SetAnswer { number, set: 0 }
 }
@@ -158,10 +185,16 @@ pub fn closure(t: Table, m: Marking) -> SetAnswer
 pub fn check(t: Table, m: Marking) -> CheckAnswer
     ensures { λ r. ⌜ r ≡ check t m ⌝ }
 {
-    let number = judge::judge(t, m);
+    let number = judge::then_marking(image::judge_table(t), t.events, m);
     if number == 0 {
-        let rows = derived::derived(t);
-        return reasons::verdict(t, m, &rows);
+        let mut rows = [0; 640];
+        let mut links = [0; 256];
+        let mut sets = [0; 4];
+        let mut columns = [0; 128];
+        derived::derived(t, &mut rows, &mut links);
+        laid::lay(m, &mut sets, &mut columns);
+        let found = reasons::found(&rows, derived::head_of(t), &sets);
+        return reasons::verdict(t, found);
     }
     CheckAnswer::Refused(number)
 }
@@ -170,12 +203,43 @@ pub fn check(t: Table, m: Marking) -> CheckAnswer
 pub fn guarded_tick(t: Table, m: Marking) -> GuardedAnswer
     ensures { λ r. ⌜ r ≡ guardedTick t m ⌝ }
 {
-    let number = judge::judge(t, m);
-    if number == 0 {
-        let rows = derived::derived(t);
-        return guard::ticked(t, m, &rows);
+    let number = judge::then_marking(image::judge_table(t), t.events, m);
+    if number != 0 {
+        return refusing::nothing(number, 0, 0, m);
     }
-    guard::nothing(number, 0, 0, m)
+    let mut rows = [0; 640];
+    let mut links = [0; 256];
+    let mut sets = [0; 4];
+    let mut columns = [0; 128];
+    derived::derived(t, &mut rows, &mut links);
+    laid::lay(m, &mut sets, &mut columns);
+    let found = reasons::found(&rows, derived::head_of(t), &sets);
+    let verdict = reasons::verdict(t, found);
+    match verdict {
+        CheckAnswer::Refused(number) => refusing::nothing(number, 0, 0, m),
+        CheckAnswer::Rejects(reason, place) => refusing::nothing(12, reason, place, m),
+        CheckAnswer::Accepts => {
+            let mut caused = [0; 64];
+            let count = guard::guarded(
+                &rows,
+                &links,
+                0,
+                &mut sets,
+                &mut columns,
+                &mut caused,
+                t.events,
+            );
+            let after = laid::give(m, time::tick(0), &sets, &columns);
+            GuardedAnswer {
+                number: 0,
+                reason: 0,
+                place: 0,
+                caused,
+                count,
+                marking: after,
+            }
+        }
+    }
 }
 
 // The shortest start that discharges, of the preferred list if it has one, else of the fallback: that stretch of the operator's own list,
@@ -191,30 +255,44 @@ pub fn remedies<'a>(
     ensures own { λ r. ⌜ r .ptr ≡ cond (remedy t m (now (preferred .entry)) (now (fallback .entry)) .fallback) (fallback .entry .ptr) (preferred .entry .ptr) ⌝ }
     ensures number { λ _. ⌜ now (number .exit) ≡ remedy t m (now (preferred .entry)) (now (fallback .entry)) .number ⌝ }
 {
-    let refusal = judge::judge(t, m);
+    let refusal = judge::then_marking(image::judge_table(t), t.events, m);
     if refusal != 0 {
         *number = refusal;
         return &preferred[..0];
     }
-    if 255 < preferred.len() {
+    if LONGEST_LIST < preferred.len() {
         *number = 14;
         return &preferred[..0];
     }
-    if 255 < fallback.len() {
+    if LONGEST_LIST < fallback.len() {
         *number = 14;
         return &preferred[..0];
     }
-    let first = remedy::tried(t, m, preferred);
-    let after = first.marking;
-    if time::due_set(after) == 0 {
+    let mut rows = [0; 640];
+    let mut links = [0; 256];
+    let mut sets = [0; 4];
+    let mut columns = [0; 128];
+    derived::derived(t, &mut rows, &mut links);
+    laid::lay(m, &mut sets, &mut columns);
+    let head = derived::head_of(t);
+    let mut first_sets = sets;
+    let mut first_columns = columns;
+    let first = remedy::tried(
+        &rows,
+        &links,
+        head,
+        &mut first_sets,
+        &mut first_columns,
+        preferred,
+    );
+    if time::due(0, &first_sets, &first_columns, t.events) == 0 {
         *number = 0;
-        return &preferred[..first.length];
+        return &preferred[..first];
     }
-    let second = remedy::tried(t, m, fallback);
-    let otherwise = second.marking;
-    if time::due_set(otherwise) == 0 {
+    let second = remedy::tried(&rows, &links, head, &mut sets, &mut columns, fallback);
+    if time::due(0, &sets, &columns, t.events) == 0 {
         *number = 0;
-        return &fallback[..second.length];
+        return &fallback[..second];
     }
     *number = 13;
     &preferred[..0]
@@ -244,12 +322,12 @@ pub fn run(t: Table, m: Marking, steps: &[Step], answers: &mut [u8]) -> MarkingA
     ensures { λ r. ⌜ (r ≡ run t m (now (steps .entry)) (length (now (answers .entry)))) × (now (answers .exit) ≡ runAnswers t m (now (steps .entry)) (now (answers .entry))) ⌝ }
 {
     let mut state = trace::begun(t, m, steps.len(), answers.len());
-    let rows = trace::rows_for(t, state.number);
+    let words = trace::words_for(t, state.number);
     let n = state.steps;
     let mut i = 0;
     while i < n {
         let x = steps[i];
-        let next = trace::stepped(t, rows, state, x.kind, x.event);
+        let next = trace::stepped(t, words, state, x.kind, x.event);
         answers[i] = next.answer;
         state = next;
         i += 1;

@@ -1,87 +1,30 @@
-// The trace runner. The table and the marking are judged once, at the start, and what is derived from the table is kept; each step then needs
-// no judging, and the check is not asked again once it has accepted.
-use super::ask::asked;
-use super::derived::derived;
-use super::guard::guarded;
-use super::guard::ticked as guard_tick;
-use super::judge::judge;
-use super::time::ticked;
+// The trace runner. The table and the marking are judged once, at the start, and laid out as words once; each step then needs no judging, and
+// the check is not asked again once it has accepted.
+use crate::judge;
+use acts::derived;
+use acts::laid;
+use duties::step;
 use rules::Marking;
 use rules::MarkingAnswer;
+use rules::Step;
 use rules::Table;
 ghost use mathlib.Core.Path.{_≡_};
-ghost use mathlib.Core.Bool.{true, _&&_, _||_};
 ghost use mathlib.Core.List.{_++_};
 ghost use Prim.Native.Nat.{_/_, _%_, _≤_};
 ghost use lib.Dec.{eqb};
 ghost use lib.ListN.{length, drop};
-ghost use Rattle.rules.specs.declared.CheckAnswer.the-variants.{Accepts};
-ghost use Rattle.rules.specs.Numbers.{_if_, _else_, done, checkNumber};
+ghost use Rattle.rules.specs.Numbers.{_if_, _else_};
 ghost use Rattle.rules.specs.Judge.{judged};
-ghost use Rattle.rules.specs.Check.{verdict};
-ghost use Rattle.rules.specs.Guard.{guarded};
-ghost use Rattle.rules.specs.Trace.{endOf, answersOf, traceNumber, stepsIn};
+ghost use Rattle.rules.specs.Trace.{mostSteps, endOf, answersOf, traceNumber, stepsIn};
 ghost use Rattle.rules.specs.Laws.Judge.{GoodTable};
-ghost use Rattle.rules.specs.Laws.Trace.{turned};
-ghost use Rattle.engine.specs.Derived.{Derived};
+ghost use Rattle.acts.specs.Derived.{Derived, Linked};
 ghost use Rattle.engine.specs.Running.{begunRun, furtherRun, Fit};
-
-// A guarded tick: 12. Where the check is known to accept it is not asked.
-fn guard_ticked(t: Table, m: Marking, rows: &[u64], accepted: bool) -> MarkingAnswer
-    requires { ⌜ judged t m ≡ 0 ⌝ }
-    requires { ⌜ Derived t (t .count) (now rows) ⌝ }
-    requires { ⌜ (accepted ≡ true → verdict t m ≡ Accepts) ⌝ }
-    ensures { λ r. ⌜ r ≡ record { number = checkNumber (verdict t m); marking = done (checkNumber (verdict t m)) (guarded t m) m } ⌝ }
-{
-    let answer = if accepted {
-        guarded(t, m, rows)
-    } else {
-        guard_tick(t, m, rows)
-    };
-    let after = answer.marking;
-    MarkingAnswer {
-        number: answer.number,
-        marking: after,
-    }
-}
-
-// One step, of a kind and an event number; a refused step leaves the marking.
-fn turn(t: Table, m: Marking, rows: &[u64], accepted: bool, kind: u8, event: u8) -> MarkingAnswer
-    requires { ⌜ judged t m ≡ 0 ⌝ }
-    requires { ⌜ Derived t (t .count) (now rows) ⌝ }
-    requires { ⌜ (accepted ≡ true → verdict t m ≡ Accepts) ⌝ }
-    ensures { λ r. ⌜ r ≡ turned t m kind event ⌝ }
-{
-    let e = event as usize;
-    if kind == 0 {
-        return asked(t, m, e, true);
-    }
-    if kind == 1 {
-        return asked(t, m, e, false);
-    }
-    if e != 0 {
-        return MarkingAnswer {
-            number: 15,
-            marking: m,
-        };
-    }
-    if kind == 2 {
-        return ticked(m);
-    }
-    if kind == 3 {
-        return guard_ticked(t, m, rows, accepted);
-    }
-    MarkingAnswer {
-        number: 15,
-        marking: m,
-    }
-}
 
 // A trace of so many steps, for a buffer of so many bytes: 14.
 fn trace_number(steps: usize, room: usize) -> u8
     ensures { λ r. ⌜ r ≡ traceNumber steps room ⌝ }
 {
-    if 4096 < steps {
+    if Step::MOST < steps {
         return 14;
     }
     if room < steps {
@@ -94,7 +37,7 @@ fn trace_number(steps: usize, room: usize) -> u8
 pub fn bytes_number(t: Table, m: Marking, bytes: usize, room: usize) -> u8
     ensures { λ r. ⌜ r ≡ (judged t m else 1 if eqb (bytes % 2) 1 else traceNumber (bytes / 2) room) ⌝ }
 {
-    let number = judge(t, m);
+    let number = judge::then_marking(image::judge_table(t), t.events, m);
     if number == 0 {
         if bytes % 2 == 1 {
             return 1;
@@ -114,11 +57,17 @@ pub struct Running {
     pub steps: usize,
 }
 
+// The words of a table, for a caller that cannot lend them.
+pub struct Words {
+    pub rows: [u64; 640],
+    pub links: [u64; 256],
+}
+
 // Nothing is run of a trace that is refused.
 pub fn begun(t: Table, m: Marking, steps: usize, room: usize) -> Running
     ensures { λ r. ⌜ r ≡ begunRun t m steps room ⌝ }
 {
-    let mut number = judge(t, m);
+    let mut number = judge::then_marking(image::judge_table(t), t.events, m);
     if number == 0 {
         number = trace_number(steps, room);
         if number == 0 {
@@ -140,79 +89,89 @@ pub fn begun(t: Table, m: Marking, steps: usize, room: usize) -> Running
     }
 }
 
-// The rows of a run's table, kept from step to step; none where the trace is refused.
-pub fn rows_for(t: Table, number: u8) -> [u64; 512]
+// The words of a run's table, kept from step to step; none where the trace is refused.
+pub fn words_for(t: Table, number: u8) -> Words
     requires { ⌜ (number ≡ 0 → GoodTable t) ⌝ }
-    ensures { λ r. ⌜ (number ≡ 0 → Derived t (t .count) r) ⌝ }
+    ensures { λ r. ⌜ (number ≡ 0 → Derived t (t .count) (r .rows) × Linked t (t .count) (r .rows) (r .links)) ⌝ }
 {
+    let mut rows = [0; 640];
+    let mut links = [0; 256];
     if number == 0 {
-        return derived(t);
+        derived::derived(t, &mut rows, &mut links);
     }
-    [0; 512]
+    Words { rows, links }
 }
 
-// A guarded tick that is done shows that the check accepts, and it then goes on accepting whatever the steps are (demand 3).
-fn shows_accepted(accepted: bool, kind: u8, number: u8) -> bool
-    ensures { λ r. ⌜ r ≡ (accepted || eqb kind 3 && eqb number 0) ⌝ }
-{
-    if accepted {
-        return true;
-    }
-    if kind == 3 { number == 0 } else { false }
-}
-
-// One step more.
-fn further(t: Table, rows: &[u64], r: Running, kind: u8, event: u8) -> Running
-    requires { ⌜ Fit t r ⌝ }
-    requires { ⌜ Derived t (t .count) (now rows) ⌝ }
+// One step more, of values that are handed over and back, for a caller that cannot lend words.
+pub fn stepped(t: Table, words: Words, r: Running, kind: u8, event: u8) -> Running
+    requires { ⌜ Fit t r × (Derived t (t .count) (words .rows) × Linked t (t .count) (words .rows) (words .links)) ⌝ }
     ensures { λ n. ⌜ n ≡ furtherRun t r kind event ⌝ }
 {
     let before = r.marking;
-    let answer = turn(t, before, rows, r.accepted, kind, event);
-    let after = answer.marking;
+    let rows = words.rows;
+    let links = words.links;
+    let mut sets = [0; 4];
+    let mut columns = [0; 128];
+    laid::lay(before, &mut sets, &mut columns);
+    let told = step::step(
+        &rows,
+        &links,
+        derived::head_of(t),
+        0,
+        &mut sets,
+        &mut columns,
+        r.accepted,
+        kind,
+        event,
+    );
+    let after = laid::give(before, told.clock, &sets, &columns);
     Running {
         marking: after,
-        accepted: shows_accepted(r.accepted, kind, answer.number),
-        answer: answer.number,
+        accepted: told.accepted,
+        answer: told.number,
         number: r.number,
         steps: r.steps,
     }
 }
 
-// The same, of rows by value, for a caller that cannot lend them.
-pub fn stepped(t: Table, rows: [u64; 512], r: Running, kind: u8, event: u8) -> Running
-    requires { ⌜ Fit t r × Derived t (t .count) rows ⌝ }
-    ensures { λ n. ⌜ n ≡ furtherRun t r kind event ⌝ }
-{
-    further(t, &rows, r, kind, event)
-}
-
-// Every step in turn, each answer to its place; the end marking.
+// Every step in turn, each answer to its place; the end marking. The words are laid out once.
 pub fn played(t: Table, m: Marking, steps: &[u8], answers: &mut [u8]) -> Marking
     requires { ⌜ judged t m ≡ 0 ⌝ }
-    requires { ⌜ length (now steps) / 2 ≤ length (now answers) ⌝ }
+    requires { ⌜ (length (now steps) / 2 ≤ length (now answers)) × (length (now steps) / 2 ≤ mostSteps) ⌝ }
     ensures { λ r. ⌜ r ≡ endOf t m (stepsIn (now (steps .entry))) ⌝ }
     ensures { λ _. ⌜ now (answers .exit) ≡ answersOf t m (stepsIn (now (steps .entry))) ++ drop (length (now (steps .entry)) / 2) (now (answers .entry)) ⌝ }
 {
-    let rows = derived(t);
+    let mut rows = [0; 640];
+    let mut links = [0; 256];
+    let mut sets = [0; 4];
+    let mut columns = [0; 128];
+    derived::derived(t, &mut rows, &mut links);
+    laid::lay(m, &mut sets, &mut columns);
+    let head = derived::head_of(t);
     let n = steps.len() / 2;
-    let mut state = Running {
-        marking: m,
-        accepted: false,
-        answer: 0,
-        number: 0,
-        steps: n,
-    };
+    let mut clock = 0;
+    let mut accepted = false;
     let mut i = 0;
     while i < n {
         let kind = steps[2 * i];
         let event = steps[2 * i + 1];
-        let next = further(t, &rows, state, kind, event);
-        answers[i] = next.answer;
-        state = next;
+        let told = step::step(
+            &rows,
+            &links,
+            head,
+            clock,
+            &mut sets,
+            &mut columns,
+            accepted,
+            kind,
+            event,
+        );
+        answers[i] = told.number;
+        clock = told.clock;
+        accepted = told.accepted;
         i += 1;
     }
-    state.marking
+    laid::give(m, clock, &sets, &columns)
 }
 
 pub fn ended(r: Running) -> MarkingAnswer

@@ -63,10 +63,6 @@ unfoldable pub answersOf : Table → Marking → List Step → List ℕ
 answersOf t m [] = []
 answersOf t m (s ∷ rest) = stepNumber t m s ∷ answersOf t (stepped t m s) rest
 
--- a trace has at most so many steps
-abbrev pub mostSteps : ℕ
-mostSteps = 4096
-
 -- the whole trace, for a buffer of so many bytes: 14
 unfoldable pub traceNumber : ℕ → ℕ → ℕ
 traceNumber steps room = 14 if (ltb mostSteps steps || ltb room steps)

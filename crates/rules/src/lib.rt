@@ -36,9 +36,7 @@ pub struct Marking {
     pub events: usize,
 }
 
-// A trace has at most so many steps, an offered list at most so many events.
-pub const MOST_STEPS: usize = 4_096;
-
+// An offered list has at most so many events.
 pub const LONGEST_LIST: usize = 255;
 
 // One step of a trace, of one of the kinds below; ticks have event 0.
@@ -115,11 +113,6 @@ impl Table {
     pub const MOST_RELATIONS: usize = 256;
 }
 
-impl Step {
-    // A trace has at most so many steps.
-    pub const MOST: usize = 4096;
-}
-
 impl Marking {
     // Ages, times and deadlines are at most this.
     pub const AGE_LIMIT: u32 = 1_000_000_000;
@@ -177,6 +170,9 @@ impl Marking {
 }
 
 impl Step {
+    // A trace has at most so many steps.
+    pub const MOST: usize = 4096;
+
     // The kinds.
     pub const REQUEST: u8 = 0;
 

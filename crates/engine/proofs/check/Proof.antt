@@ -1,30 +1,69 @@
--- Judged first, then the verdict of the rows. Assumes nothing.
-use mathlib.Core.Path.{_∙_, sym}
+-- Judged first, then the verdict that the words come to. Assumes nothing.
+use mathlib.Core.Path.{_≡_, _∙_, sym, refl}
 use borrow.Author.Needs.{needs}
-use Rattle.rules.specs.Laws.Judge.{good}
-use Rattle.engine.specs.Laws.Taking.{check-judged, check-refused}
+use Rattle.rules.specs.Judge.{judged}
+use Rattle.engine.specs.Laws.Judging.{unused, judged-by, table-good, few-records, some-events, laid-out}
+use Rattle.duties.specs.Laws.Checked.{check-judged, check-refused}
 use Rattle.engine.proofs.check.Statement.{statement}
 use Rattle.engine.proofs.check.Tie as tie
 
-judge-requires : tie.Need-judge-requires
-judge-requires c κs = tt
+judge-table-requires : tie.Need-judge-table-requires
+judge-table-requires c κs = search needs
+
+then-marking-requires : tie.Need-then-marking-requires
+then-marking-requires c κs = search needs
+
+number : (c : tie.After-then-marking) → c .then-marking .result ≡ judged (c .before .before .args .t) (c .before .before .args .m)
+number c = judged-by _ _ (c .before .judge-table .ensures) (c .then-marking .ensures)
+
+granted : (c : tie.Then1) → judged (c .before .before .before .args .t) (c .before .before .before .args .m) ≡ 0
+granted c = sym (number (c .before)) ∙ c .if1 .taken
 
 derived-requires : tie.Need-derived-requires
-derived-requires c κs = good _ _ (sym (c .before .judge .ensures) ∙ c .if1 .taken) .table-good
+derived-requires c κs = (table-good _ _ (granted (c .before .before)), (refl, refl))
 
-slice-aggregate-verdict : tie.Need-slice-aggregate-verdict
-slice-aggregate-verdict c = search needs
+lay-requires : tie.Need-lay-requires
+lay-requires c κs = (few-records _ _ (granted (c .before .before .before .before .before)), (refl, refl))
+
+slice-aggregate-found : tie.Need-slice-aggregate-found
+slice-aggregate-found c = search needs
+
+head-of-requires : tie.Need-head-of-requires
+head-of-requires c κs = search needs
+
+found-requires : tie.Need-found-requires
+found-requires c κs =
+    let d = granted (c .before .before .before .before .before .before .before .before .before) in
+    let head = c .before .head-of .ensures in
+    (rw head (some-events _ _ d), rw head (table-good _ _ d .few-events), c .before .before .before .before .before .before .derived .ensures .0 .size)
 
 verdict-requires : tie.Need-verdict-requires
-verdict-requires c κs = (good _ _ (sym (c .before .before .before .judge .ensures) ∙ c .before .before .if1 .taken), c .before .derived .ensures)
+verdict-requires c κs = table-good _ _ (granted (c .before .before .before .before .before .before .before .before .before .before))
 
 returns : tie.Need-returns
 returns c =
-    let h = c .before .before .before in
-    c .verdict .ensures ∙ sym (check-judged _ _ (sym (h .before .judge .ensures) ∙ h .if1 .taken))
+    let laid = c .before .before .before .before .before in
+    let judging = laid .before .before .before .before .before .before in
+    let a = judging .before .before .before .args in
+    let d = granted judging in
+    c .verdict .ensures
+    ∙ c .before .found .ensures (a .t) (unused (a .m)) 0 _ (a .m) (table-good _ _ d) (laid .before .before .before .derived .ensures .0) (c .before .before .before .head-of .ensures) (laid-out (a .t) (a .m) d (laid .lay .ensures))
+    ∙ sym (check-judged _ _ d)
 
 returns-2 : tie.Need-returns-2
-returns-2 c = sym (check-refused _ _ _ (c .before .judge .ensures) (c .if1 .left))
+returns-2 c = sym (check-refused _ _ _ (number (c .before)) (c .if1 .left))
 
 pub check-spec : {M : Type 1} → statement M
-check-spec = tie.close (tie.spec judge-requires derived-requires slice-aggregate-verdict verdict-requires returns returns-2)
+check-spec =
+    tie.close
+    (tie.spec
+    judge-table-requires
+    then-marking-requires
+    derived-requires
+    lay-requires
+    slice-aggregate-found
+    head-of-requires
+    found-requires
+    verdict-requires
+    returns
+    returns-2)

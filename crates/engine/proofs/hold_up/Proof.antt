@@ -1,25 +1,45 @@
 -- `hold_up` gives the judge's number, and what holds the event up where that is 'done'. Assumes nothing.
-use mathlib.Core.Path.{sym, _∙_}
+use mathlib.Core.Path.{_≡_, sym, _∙_}
 use borrow.Author.Tests.{ne-eqb}
 use borrow.Author.Needs.{needs}
+use Rattle.rules.specs.Numbers.{_else_}
+use Rattle.rules.specs.Judge.{judged, eventNumber}
 use Rattle.rules.specs.HoldUp.{holdUp}
 use Rattle.rules.specs.Laws.Told.{event-told}
+use Rattle.engine.specs.Laws.Judging.{judged-by, event-by}
 use Rattle.engine.proofs.hold_up.Statement.{statement}
 use Rattle.engine.proofs.hold_up.Tie as tie
 
-judge-event-requires : tie.Need-judge-event-requires
-judge-event-requires c κs = search needs
+judge-table-requires : tie.Need-judge-table-requires
+judge-table-requires c κs = search needs
+
+then-marking-requires : tie.Need-then-marking-requires
+then-marking-requires c κs = search needs
+
+then-event-requires : tie.Need-then-event-requires
+then-event-requires c κs = search needs
+
+event-number : (c : tie.After-then-event) → c .then-event .result ≡ (judged (c .before .before .before .args .t) (c .before .before .before .args .m) else eventNumber (c .before .before .before .args .t) (c .before .before .before .args .event))
+event-number c = event-by _ _ _ (judged-by _ _ (c .before .before .judge-table .ensures) (c .before .then-marking .ensures)) (c .then-event .ensures)
 
 holding-requires : tie.Need-holding-requires
-holding-requires c κs = event-told _ _ _ (sym (c .before .judge-event .ensures) ∙ c .if1 .taken)
+holding-requires c κs = event-told _ _ _ (sym (event-number (c .before)) ∙ c .if1 .taken)
 
 returns : tie.Need-returns
 unfolding holdUp
-returns c = rw (sym (c .before .before .judge-event .ensures) ∙ c .before .if1 .taken) (c .holding .ensures)
+returns c = rw (sym (event-number (c .before .before)) ∙ c .before .if1 .taken) (c .holding .ensures)
 
 returns-2 : tie.Need-returns-2
 unfolding holdUp
-returns-2 c = rw (← c .before .judge-event .ensures, ne-eqb _ _ (c .if1 .left))
+returns-2 c = rw (← event-number (c .before), ne-eqb _ _ (c .if1 .left))
 
 pub hold-up-spec : {M : Type 1} → statement M
-hold-up-spec = tie.close (tie.spec judge-event-requires holding-requires returns returns-2)
+hold-up-spec =
+    tie.close
+    (tie.spec
+    judge-table-requires
+    then-marking-requires
+    then-event-requires
+    holding-requires
+    returns
+    returns-2)

@@ -1,49 +1,42 @@
--- Which list, how long a start and which number, test by test as the law of the answer goes. Assumes nothing.
-use mathlib.Core.Path.{_≡_, sym, _∙_}
-use Prim.Native.Nat.{_+_}
+-- Which list, how long a start and which number, test by test as the law of the answer goes. Each list is tried in words of its own. Assumes
+-- nothing.
+use mathlib.Core.Path.{_≡_, refl, sym, _∙_}
+use Prim.Native.Nat.{_+_, _<_, _≤_}
 use native.Mathlib.Omega.{arith}
 use lib.ListN.{length}
 use lib.Seq.{length-take-le}
-use Rattle.rules.specs.Judge.{judged}
-use Rattle.rules.specs.Remedy.{shortest}
-use Rattle.rules.specs.Laws.Judge.{good}
-use Rattle.rules.specs.Laws.Told.{few-marked}
-use Rattle.rules.specs.Laws.Remedy.{remedy-judged, remedy-first-long, remedy-second-long, remedy-first, remedy-second, remedy-none}
 use borrow.Author.Needs.{needs}
+use Rattle.rules.specs.declared.Marking.{Marking}
+use Rattle.rules.specs.Judge.{judged}
+use Rattle.rules.specs.Time.{dueSet}
+use Rattle.rules.specs.Remedy.{shortest}
+use Rattle.rules.specs.Laws.Remedy.{remedy-judged, remedy-first-long, remedy-second-long, remedy-first, remedy-second, remedy-none}
+use Rattle.acts.specs.Stands.{Stands}
+use Rattle.engine.specs.Trial.{Tried}
+use Rattle.engine.specs.Laws.Judging.{unused, judged-by, table-good, few-records, some-events, laid-out}
 use Rattle.engine.specs.Laws.Trial.{start-found, none-found}
 use Rattle.engine.proofs.remedies.Statement.{statement}
 use Rattle.engine.proofs.remedies.Tie as tie
 
-told : (c : tie.Else1) → judged (c .before .before .before .before .args .t) (c .before .before .before .before .args .m) ≡ 0
-told c = sym (c .before .judge .ensures) ∙ c .if1 .left
+judge-table-requires : tie.Need-judge-table-requires
+judge-table-requires c κs = search needs
 
--- what the trial of each list told of its shortest start
-first-found : (c : tie.Then4) → let f = c .before .before .before in let a = f .before .before .before .before .before .before .before .args in
-    shortest (a .t) (a .m) (a .preferred .now) ≡ f .tried .result .length
-first-found c = start-found (c .before .before .before .tried .ensures) (sym (c .before .due-set .ensures) ∙ c .if4 .taken)
+then-marking-requires : tie.Need-then-marking-requires
+then-marking-requires c κs = search needs
 
-none-first : (c : tie.Else4) → let a = c .before .before .before .before .before .before .before .before .before .before .args in
-    shortest (a .t) (a .m) (a .preferred .now) ≡ length (a .preferred .now) + 1
-none-first c = none-found (c .before .before .before .tried .ensures) (λ z. c .if4 .left (c .before .due-set .ensures ∙ z))
+number : (c : tie.After-then-marking) → c .then-marking .result ≡ judged (c .before .before .before .before .args .t) (c .before .before .before .before .args .m)
+number c = judged-by _ _ (c .before .judge-table .ensures) (c .then-marking .ensures)
 
-second-found : (c : tie.Then5) → let f = c .before .before .before in let a = f .before .before .before .before .before .before .before .before .before .before .before .args in
-    shortest (a .t) (a .m) (a .fallback .now) ≡ f .tried2 .result .length
-second-found c = start-found (c .before .before .before .tried2 .ensures) (sym (c .before .due-set2 .ensures) ∙ c .if5 .taken)
-
-none-second : (c : tie.Else5) → let a = c .before .before .before .before .before .before .before .before .before .before .before .before .before .before .args in
-    shortest (a .t) (a .m) (a .fallback .now) ≡ length (a .fallback .now) + 1
-none-second c = none-found (c .before .before .before .tried2 .ensures) (λ z. c .if5 .left (c .before .due-set2 .ensures ∙ z))
-
-judge-requires : tie.Need-judge-requires
-judge-requires c κs = search needs
+granted : (c : tie.Else1) → judged (c .before .before .before .before .before .args .t) (c .before .before .before .before .before .args .m) ≡ 0
+granted c = sym (number (c .before)) ∙ c .if1 .left
 
 slice-aggregate-result : tie.Need-slice-aggregate-result
 slice-aggregate-result c = search needs
 
 returns : tie.Need-returns
 returns c =
-    let a = c .before .before .before .before .before .args in
-    let e = remedy-judged (a .t) (a .m) (a .preferred .now) (a .fallback .now) (c .before .before .judge .ensures) (c .before .if1 .taken) in
+    let a = c .before .before .before .before .before .before .args in
+    let e = remedy-judged (a .t) (a .m) (a .preferred .now) (a .fallback .now) (number (c .before .before)) (c .before .if1 .taken) in
     (rw e, (rw e, rw e))
 
 slice-aggregate-result-2 : tie.Need-slice-aggregate-result-2
@@ -51,8 +44,8 @@ slice-aggregate-result-2 c = search needs
 
 returns-2 : tie.Need-returns-2
 returns-2 c =
-    let a = c .before .before .before .before .before .before .args in
-    let e = remedy-first-long (a .t) (a .m) (a .preferred .now) (a .fallback .now) (told (c .before .before)) (c .before .if2 .taken) in
+    let a = c .before .before .before .before .before .before .before .args in
+    let e = remedy-first-long (a .t) (a .m) (a .preferred .now) (a .fallback .now) (granted (c .before .before)) (c .before .if2 .taken) in
     (rw e, (rw e, rw e))
 
 slice-aggregate-result-3 : tie.Need-slice-aggregate-result-3
@@ -60,44 +53,118 @@ slice-aggregate-result-3 c = search needs
 
 returns-3 : tie.Need-returns-3
 returns-3 c =
-    let a = c .before .before .before .before .before .before .before .args in
-    let e = remedy-second-long (a .t) (a .m) (a .preferred .now) (a .fallback .now) (told (c .before .before .before)) (c .before .if3 .taken) in
+    let a = c .before .before .before .before .before .before .before .before .args in
+    let e = remedy-second-long (a .t) (a .m) (a .preferred .now) (a .fallback .now) (granted (c .before .before .before)) (c .before .if3 .taken) in
     (rw e, (rw e, rw e))
 
-tried-requires : tie.Need-tried-requires
-tried-requires c κs = told (c .before .before)
+derived-requires : tie.Need-derived-requires
+derived-requires c κs = (table-good _ _ (granted (c .before .before .before .before)), (refl, refl))
 
-due-set-requires : tie.Need-due-set-requires
-due-set-requires c κs = few-marked (good _ _ (c .before .tried .ensures .still-judged))
+lay-requires : tie.Need-lay-requires
+lay-requires c κs = (few-records _ _ (granted (c .before .before .before .before .before .before .before)), (refl, refl))
+
+head-of-requires : tie.Need-head-of-requires
+head-of-requires c κs = search needs
+
+slice-aggregate-tried : tie.Need-slice-aggregate-tried
+slice-aggregate-tried c = search needs
+
+slice-aggregate-tried-2 : tie.Need-slice-aggregate-tried-2
+slice-aggregate-tried-2 c = search needs
+
+-- the words that were made, what was asked before, and what is known of it
+abbrev short : tie.After-lay → tie.Else3
+short c = c .before .before .before .before .before .before
+
+few : (c : tie.After-head-of) → (0 < c .head-of .result .events) × (c .head-of .result .events ≤ 64)
+few c =
+    let d = granted (short (c .before) .before .before) in
+    let head = c .head-of .ensures in
+    (rw head (some-events _ _ d), rw head (table-good _ _ d .few-events))
+
+tried-requires : tie.Need-tried-requires
+tried-requires c κs =
+    let made = c .before .before .before .before .before .before .before .before .derived .ensures in
+    let counts = few (c .before .before .before .before) in
+    (counts .0, counts .1, made .0 .size, made .1 .size)
+
+due-requires : tie.Need-due-requires
+due-requires c κs =
+    let d = granted (c .before .before .before .before .before .before .before .before .before .before .before .before .before .before .before .before) in
+    (some-events _ _ d, table-good _ _ d .few-events)
+
+-- the first list, tried: its shortest start, by the due events after it
+first-told : (c : tie.After-due) → let a = c .before .before .before .before .before .before .before .before .before .before .before .before .before .before .before .before .before .before .before .before .before .before .args in
+    (after : Marking) × ((c .due .result ≡ dueSet after) × Tried (a .t) (a .m) (a .preferred .now) (c .before .before .before .tried .result) after)
+first-told c =
+    let tried = c .before .before .before in
+    let laid = tried .before .before .before .before .before .before in
+    let a = laid .before .before .before .before .before .before .before .before .before .before .before .before .before .args in
+    let d = granted (short laid .before .before) in
+    let made = laid .before .before .before .derived .ensures in
+    let w = tried .tried .ensures .1 (a .t) (unused (a .m)) (a .m) d (made .0) (made .1) (tried .before .before .before .before .before .head-of .ensures) (laid-out (a .t) (a .m) d (laid .lay .ensures)) in
+    (w .0, (c .due .ensures (unused (a .m)) (w .0) (w .1), w .2))
 
 slice-aggregate-result-4 : tie.Need-slice-aggregate-result-4
-slice-aggregate-result-4 c = sym (length-take-le _ _ (c .before .before .before .before .tried .ensures .within))
+slice-aggregate-result-4 c = sym (length-take-le _ _ (c .before .before .before .before .before .tried .ensures .0))
 
 returns-4 : tie.Need-returns-4
 returns-4 c =
-    let f = c .before .before .before .before in
-    let short = f .before in
-    let a = short .before .before .before .before .before .before .args in
-    let is = first-found (c .before) in
-    let e = remedy-first (a .t) (a .m) (a .preferred .now) (a .fallback .now) (told (short .before .before)) (short .before .if2 .left) (short .if3 .left) (rw is (f .tried .ensures .within)) in
+    let due = c .before .before in
+    let tried = due .before .before .before in
+    let off = short (tried .before .before .before .before .before .before) in
+    let a = off .before .before .before .before .before .before .before .args in
+    let w = first-told due in
+    let is = start-found (w .1 .1) (sym (w .1 .0) ∙ c .before .if4 .taken) in
+    let e = remedy-first (a .t) (a .m) (a .preferred .now) (a .fallback .now) (granted (off .before .before)) (off .before .if2 .left) (off .if3 .left) (rw is (tried .tried .ensures .0)) in
     (rw (e, is), (rw e, rw e))
 
-tried-requires-2 : tie.Need-tried-requires-2
-tried-requires-2 c κs = told (c .before .before .before .before .before .before)
+slice-aggregate-tried-3 : tie.Need-slice-aggregate-tried-3
+slice-aggregate-tried-3 c = search needs
 
-due-set-requires-2 : tie.Need-due-set-requires-2
-due-set-requires-2 c κs = few-marked (good _ _ (c .before .tried2 .ensures .still-judged))
+slice-aggregate-tried-4 : tie.Need-slice-aggregate-tried-4
+slice-aggregate-tried-4 c = search needs
+
+tried-requires-2 : tie.Need-tried-requires-2
+tried-requires-2 c κs =
+    let made = c .before .before .before .before .before .before .before .before .before .before .before .before .before .before .before .before .before .derived .ensures in
+    let counts = few (c .before .before .before .before .before .before .before .before .before .before .before .before .before) in
+    (counts .0, counts .1, made .0 .size, made .1 .size)
+
+due-requires-2 : tie.Need-due-requires-2
+due-requires-2 c κs =
+    let d = granted (c .before .before .before .before .before .before .before .before .before .before .before .before .before .before .before .before .before .before .before .before .before .before .before .before .before) in
+    (some-events _ _ d, table-good _ _ d .few-events)
+
+none-first : (c : tie.Else4) → let a = c .before .before .before .before .before .before .before .before .before .before .before .before .before .before .before .before .before .before .before .before .before .before .before .args in shortest (a .t) (a .m) (a .preferred .now) ≡ length (a .preferred .now) + 1
+none-first c =
+    let w = first-told (c .before) in
+    none-found (w .1 .1) (λ z. c .if4 .left (w .1 .0 ∙ z))
+
+-- the second, in the words as they were laid out
+second-told : (c : tie.After-due2) → let a = c .before .before .before .before .before .before .before .before .before .before .before .before .before .before .before .before .before .before .before .before .before .before .before .before .before .before .before .before .before .before .before .args in
+    (after : Marking) × ((c .due2 .result ≡ dueSet after) × Tried (a .t) (a .m) (a .fallback .now) (c .before .before .before .tried2 .result) after)
+second-told c =
+    let tried = c .before .before .before in
+    let laid = tried .before .before .before .before .before .before .before .before .before .before .before .before .before .before .before in
+    let a = laid .before .before .before .before .before .before .before .before .before .before .before .before .before .args in
+    let d = granted (short laid .before .before) in
+    let made = laid .before .before .before .derived .ensures in
+    let w = tried .tried2 .ensures .1 (a .t) (unused (a .m)) (a .m) d (made .0) (made .1) (tried .before .before .before .before .before .before .before .before .before .before .before .before .before .before .head-of .ensures) (laid-out (a .t) (a .m) d (laid .lay .ensures)) in
+    (w .0, (c .due2 .ensures (unused (a .m)) (w .0) (w .1), w .2))
 
 slice-aggregate-result-5 : tie.Need-slice-aggregate-result-5
-slice-aggregate-result-5 c = sym (length-take-le _ _ (c .before .before .before .before .tried2 .ensures .within))
+slice-aggregate-result-5 c = sym (length-take-le _ _ (c .before .before .before .before .before .tried2 .ensures .0))
 
 returns-5 : tie.Need-returns-5
 returns-5 c =
-    let s = c .before .before .before .before in
-    let short = s .before .before .before .before .before in
-    let a = short .before .before .before .before .before .before .args in
-    let is = second-found (c .before) in
-    let e = remedy-second (a .t) (a .m) (a .preferred .now) (a .fallback .now) (told (short .before .before)) (short .before .if2 .left) (short .if3 .left) (omega (arith, none-first (s .before))) (rw is (s .tried2 .ensures .within)) in
+    let due = c .before .before in
+    let tried = due .before .before .before in
+    let off = short (tried .before .before .before .before .before .before .before .before .before .before .before .before .before .before .before) in
+    let a = off .before .before .before .before .before .before .before .args in
+    let w = second-told due in
+    let is = start-found (w .1 .1) (sym (w .1 .0) ∙ c .before .if5 .taken) in
+    let e = remedy-second (a .t) (a .m) (a .preferred .now) (a .fallback .now) (granted (off .before .before)) (off .before .if2 .left) (off .if3 .left) (omega (arith, none-first (tried .before .before .before .before .before))) (rw is (tried .tried2 .ensures .0)) in
     (rw (e, is), (rw e, rw e))
 
 slice-aggregate-result-6 : tie.Need-slice-aggregate-result-6
@@ -105,29 +172,40 @@ slice-aggregate-result-6 c = search needs
 
 returns-6 : tie.Need-returns-6
 returns-6 c =
-    let s = c .before .before .before .before in
-    let short = s .before .before .before .before .before in
-    let a = short .before .before .before .before .before .before .args in
-    let e = remedy-none (a .t) (a .m) (a .preferred .now) (a .fallback .now) (told (short .before .before)) (short .before .if2 .left) (short .if3 .left) (omega (arith, none-first (s .before))) (omega (arith, none-second (c .before))) in
+    let due = c .before .before in
+    let tried = due .before .before .before in
+    let off = short (tried .before .before .before .before .before .before .before .before .before .before .before .before .before .before .before) in
+    let a = off .before .before .before .before .before .before .before .args in
+    let w = second-told due in
+    let none = none-found (w .1 .1) (λ z. c .before .if5 .left (w .1 .0 ∙ z)) in
+    let e = remedy-none (a .t) (a .m) (a .preferred .now) (a .fallback .now) (granted (off .before .before)) (off .before .if2 .left) (off .if3 .left) (omega (arith, none-first (tried .before .before .before .before .before))) (omega (arith, none)) in
     (rw e, (rw e, rw e))
 
 pub remedies-spec : {M : Type 1} → statement M
 remedies-spec =
     tie.close
     (tie.spec
-    judge-requires
+    judge-table-requires
+    then-marking-requires
     slice-aggregate-result
     returns
     slice-aggregate-result-2
     returns-2
     slice-aggregate-result-3
     returns-3
+    derived-requires
+    lay-requires
+    head-of-requires
+    slice-aggregate-tried
+    slice-aggregate-tried-2
     tried-requires
-    due-set-requires
+    due-requires
     slice-aggregate-result-4
     returns-4
+    slice-aggregate-tried-3
+    slice-aggregate-tried-4
     tried-requires-2
-    due-set-requires-2
+    due-requires-2
     slice-aggregate-result-5
     returns-5
     slice-aggregate-result-6

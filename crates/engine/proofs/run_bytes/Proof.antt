@@ -1,5 +1,6 @@
 -- A trace that is granted is played; one that is refused leaves the buffer and the marking. Assumes nothing.
 use mathlib.Core.Path.{ap, sym, _∙_}
+use lib.ListN.{length}
 use Rattle.rules.specs.declared.Marking.{Marking}
 use Rattle.rules.specs.Laws.Trace.{bytes-granted, bytes-done, bytes-refused}
 use borrow.Author.Needs.{needs}
@@ -12,16 +13,18 @@ bytes-number-requires c κs = search needs
 played-requires : tie.Need-played-requires
 played-requires c κs =
     let a = c .before .before .before .before .before .args in
-    bytes-granted (a .t) (a .m) (a .steps .now) (a .answers .now) (sym (c .before .before .bytes-number .ensures) ∙ c .before .if1 .taken)
+    bytes-granted (a .t) (a .m) (a .steps .now) (length (a .answers .now)) (sym (c .before .before .bytes-number .ensures) ∙ c .before .if1 .taken)
 
 same-length : tie.Need-same-length
 same-length c = search needs
 
 returns : tie.Need-returns
 returns c =
-    let a = c .before .before .before .before .before .before .before .before .args in
-    let done = bytes-done (a .t) (a .m) (a .steps .now) (a .answers .now) (sym (c .before .before .before .before .before .bytes-number .ensures) ∙ c .before .before .before .before .if1 .taken) in
-    (ap (λ (k : Marking). record { number = 0; marking = k }) (c .before .before .played .ensures .0) ∙ done .0, c .before .before .played .ensures .1 ∙ done .1)
+    let at-played = c .before .before in
+    let chosen = at-played .before .before in
+    let a = chosen .before .before .before .before .args in
+    let done = bytes-done (a .t) (a .m) (a .steps .now) (a .answers .now) (sym (chosen .before .bytes-number .ensures) ∙ chosen .if1 .taken) in
+    (ap (λ (k : Marking). record { number = 0; marking = k }) (at-played .played .ensures .0) ∙ done .0, at-played .played .ensures .1 ∙ done .1)
 
 returns-2 : tie.Need-returns-2
 returns-2 c =

@@ -7,7 +7,8 @@ use lib.ListN.{length, set}
 use lib.Seq.{length-take-le}
 use mathlib.Core.Logic.{_⊎_}
 use Rattle.rules.specs.Laws.Station.{longest}
-use Rattle.engine.specs.Heard.{longestOutput, Told, written}
+use Rattle.engine.specs.Heard.{longestOutput, written}
+use Rattle.duties.specs.Noted.{Told}
 use Rattle.engine.specs.Laws.Heard.{used-right, table-refused, table-read, few-read, rest-there, told-none, told-one}
 use borrow.Author.Needs.{needs}
 use Rattle.engine.proofs.station.Statement.{statement}

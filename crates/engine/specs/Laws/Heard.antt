@@ -22,14 +22,15 @@ use Rattle.rules.specs.Image.{recordBytes, eventsIn, readTable, readMarking, ma
 use Rattle.rules.specs.Trace.{mostSteps, traceNumber, stepsIn, endOf, answersOf}
 use Rattle.rules.specs.Station.{station}
 use Rattle.rules.specs.Laws.Tests.{decide, neither}
-use Rattle.rules.specs.Laws.Numbers.{if-done, both-done}
+use Rattle.rules.specs.Laws.Numbers.{both-done}
 use Rattle.rules.specs.Laws.Judge.{good}
 use Rattle.rules.specs.Laws.Fields.{field-lt, field-join, byte-field}
-use Rattle.rules.specs.Laws.Trace.{answers-length, steps-length, end-judged}
+use Rattle.rules.specs.Laws.Trace.{answers-length, steps-length, end-judged, bytes-granted}
 use Rattle.rules.specs.Laws.Station.{longestMarking, longestSteps, longest, tableBytes, tablePart, markingPart, stepsPart, numberOf, stationNumber, station-is, too-long, granted-short, header-small, field-take, table-events, table-short, table-same, events-same, number-by, steps-left, same-answer}
 use Rattle.image.specs.Laws.Records.{image-length}
 use Rattle.image.specs.Laws.Written.{number-done, bytes-written}
-use Rattle.engine.specs.Heard.{longestOutput, Told, misused, written, afterMarking, afterTable}
+use Rattle.engine.specs.Heard.{longestOutput, misused, written, afterMarking, afterTable}
+use Rattle.duties.specs.Noted.{Told}
 
 -- a part of what is there
 pub take-least : (n : ℕ) (l : List ℕ) → take (min n (length l)) l ≡ take n l
@@ -248,13 +249,7 @@ module _ (t : Table) (m : Marking) (kept : List ℕ) where
 
   -- and what is known then
   pub steps-granted : byNumber (length kept) ≡ 0 → (judged t m ≡ 0) × (length kept / 2 ≤ mostSteps)
-  unfolding traceNumber
-  steps-granted h =
-      let long = ltb mostSteps (length kept / 2) in
-      let tight = ltb (length kept / 2) (length kept / 2) in
-      let p = both-done (judged t m) _ h in
-      let q = both-done (1 if eqb (length kept % 2) 1) _ (p .1) in
-      (p .0, ltb-false mostSteps (length kept / 2) (neither long tight (if-done 13 (long || tight) (q .1)) .0))
+  steps-granted h = let known = bytes-granted t m kept (length kept / 2) h in (known .0, known .1 .1)
 
 -- Writing
 pub told-none : (before : List ℕ) → Told [] before 0 before

@@ -1,14 +1,14 @@
 -- A run over steps is the run of the definitions: what holds between two steps is kept, and after the last of them the run stands as the law
 -- of a trace says. Assumes nothing.
 use mathlib.Core.Path.{_≡_, refl, _∙_, ap, sym, subst}
-use mathlib.Core.Bool.{Bool, true, false, not, _&&_, _||_, cond}
+use mathlib.Core.Bool.{Bool, true, false, not, _&&_, cond}
 use mathlib.Core.List.{List, [], _∷_, _++_}
 use mathlib.Core.Logic.{⊎-elim}
 use Prim.Native.Nat.{ℕ, _<_, _≤_, _+_, _*_, _/_}
 use native.Mathlib.Omega.{arith}
-use lib.Dec.{eqb, ltb}
+use lib.Dec.{eqb}
 use lib.ListN.{length, drop, getD, set}
-use borrow.Author.Tests.{eqb-true, ltb-false}
+use borrow.Author.Tests.{eqb-true}
 use Rattle.rules.specs.declared.Table.{Table}
 use Rattle.rules.specs.declared.Marking.{Marking}
 use Rattle.rules.specs.declared.MarkingAnswer.{MarkingAnswer}
@@ -18,15 +18,15 @@ use Rattle.rules.specs.Numbers.{_if_, _else_, done, checkNumber}
 use Rattle.rules.specs.Judge.{judged}
 use Rattle.rules.specs.Check.{verdict}
 use Rattle.rules.specs.Trace.{stepNumber, stepped, traceNumber, run, runAnswers, endOf, answersOf, stepsIn}
-use Rattle.rules.specs.Laws.Tests.{clash, both, either, neither}
-use Rattle.rules.specs.Laws.Numbers.{if-done, both-done}
+use Rattle.rules.specs.Laws.Tests.{clash, both, either}
+use Rattle.rules.specs.Laws.Numbers.{both-done}
 use Rattle.rules.specs.Laws.Judge.{GoodTable, good}
-use Rattle.rules.specs.Laws.Trace.{turned, stepped-judged, noStep, steps-length, steps-at, After, after-none, after-more, after-all}
+use Rattle.rules.specs.Laws.Trace.{turned, stepped-judged, noStep, steps-length, steps-at, After, after-none, after-more, after-all, trace-granted}
 use Rattle.rules.specs.Demand3.Accepts.{check-parts, check-accepts}
 use Rattle.rules.specs.Demand3.Statements.{still-accepts as accepts-on}
 use Rattle.engine.specs.declared.trace.Running.{Running}
 use Rattle.engine.specs.Running.{begunRun, furtherRun, Fit}
-use Rattle.engine.specs.Laws.Taking.{verdict-done}
+use Rattle.duties.specs.Laws.Checked.{verdict-done}
 
 -- What holds between two steps is kept. Judged values stay judged; a guarded tick that is done shows that the check accepts, and from there
 -- it accepts whatever the steps are (demand 3).
@@ -70,7 +70,9 @@ module _ (t : Table) (m : Marking) (steps : List Step) (buffer : List ℕ) where
       → {next : Running} → next ≡ furtherRun t r (getD steps i noStep .kind) (getD steps i noStep .event) → Going (i + 1) next (set held i (next .answer))
   unfolding furtherRun
   going-more i r held g more room e = subst (λ (k : Running). Going (i + 1) k (set held i (k .answer))) (sym e) record {
-    after = after-more t m steps buffer i (r .marking) held (g .after) more room (turned t (r .marking) (getD steps i noStep .kind) (getD steps i noStep .event)) refl;
+    after =
+        after-more t m steps buffer i (r .marking) held (g .after) more room
+        (turned t (r .marking) (getD steps i noStep .kind) (getD steps i noStep .event)) refl;
     fit = λ h. fit-next t r (getD steps i noStep .kind) (getD steps i noStep .event) (g .fit h);
   }
 
@@ -92,12 +94,7 @@ module _ (t : Table) (m : Marking) (steps : List Step) (buffer : List ℕ) where
   budget = done whole (length steps) 0
 
   granted : whole ≡ 0 → (judged t m ≡ 0) × (length steps ≤ length buffer)
-  unfolding traceNumber
-  granted h =
-      let long = ltb 4096 (length steps) in
-      let tight = ltb (length buffer) (length steps) in
-      let p = both-done (judged t m) _ h in
-      (p .0, ltb-false (length buffer) (length steps) (neither long tight (if-done 13 (long || tight) (p .1)) .1))
+  granted h = let p = both-done (judged t m) _ h in (p .0, trace-granted (length steps) (length buffer) (p .1) .0)
 
   -- something is run only of a trace that is granted
   runs-granted : (i : ℕ) → i < budget → whole ≡ 0
@@ -127,25 +124,26 @@ module _ (t : Table) (m : Marking) (steps : List Step) (buffer : List ℕ) where
   unfolding begunRun
   begun-table h = good t m (granted h .0) .table-good
 
-  pub record Stands (i : ℕ) (r : Running) (held : List ℕ) : Type 0 where
+  -- after i steps: the run and the buffer
+  pub record Walking (i : ℕ) (r : Running) (held : List ℕ) : Type 0 where
     pub within : i ≤ budget
     pub going : Going t m steps buffer i r held
     pub same-number : r .number ≡ whole
 
-  pub stands-first : Stands 0 (begunRun t m (length steps) (length buffer)) buffer
+  pub walking-first : Walking 0 (begunRun t m (length steps) (length buffer)) buffer
   unfolding begunRun
-  stands-first = record { within = omega arith; going = going-first t m steps buffer _ refl refl; same-number = refl }
+  walking-first = record { within = omega arith; going = going-first t m steps buffer _ refl refl; same-number = refl }
 
-  module _ (i : ℕ) (r : Running) (held : List ℕ) (f : Stands i r held) where
-    pub stands-fit : i < budget → Fit t r
-    stands-fit b = f .going .fit (granted (runs-granted i b) .0)
+  module _ (i : ℕ) (r : Running) (held : List ℕ) (f : Walking i r held) where
+    pub walking-fit : i < budget → Fit t r
+    walking-fit b = f .going .fit (granted (runs-granted i b) .0)
 
     abbrev next : Running
     next = furtherRun t r (getD steps i noStep .kind) (getD steps i noStep .event)
 
-    pub stands-next : i < budget → Stands (i + 1) next (set held i (next .answer))
+    pub walking-next : i < budget → Walking (i + 1) next (set held i (next .answer))
     unfolding furtherRun
-    stands-next b =
+    walking-next b =
         record {
           within = omega arith;
           going = going-more t m steps buffer i r held (f .going) (omega (arith, budget-le .0)) (omega (arith, budget-le .1)) refl;
@@ -156,10 +154,10 @@ module _ (t : Table) (m : Marking) (steps : List Step) (buffer : List ℕ) where
     unfolding endOf answersOf
     none-run at = (rw at at (f .going .after .marking-is), rw at at (f .going .after .buffer-is))
 
-    pub stands-last : budget ≤ i
+    pub walking-last : budget ≤ i
         → (record { number = r .number; marking = r .marking } ≡ run t m steps (length buffer)) × (held ≡ runAnswers t m steps buffer)
     unfolding run runAnswers
-    stands-last b = go (eqb whole 0) refl (omega (arith, f .within))
+    walking-last b = go (eqb whole 0) refl (omega (arith, f .within))
       where
         go : (c : Bool) → eqb whole 0 ≡ c → i ≡ cond c (length steps) 0
             → _≡_ {A = MarkingAnswer} (record { number = r .number; marking = r .marking }) (record { number = whole; marking = cond c (endOf t m steps) m })

@@ -17,7 +17,8 @@ use Rattle.rules.specs.Numbers.{_if_, _else_, firstOf, marginNumber, hol
 use Rattle.rules.specs.Fields.{bytesOf}
 use Rattle.rules.specs.Judge.{relationNumber, tableNumber, markingNumber, markingNumberFor, judged}
 use Rattle.rules.specs.Image.{relationImageNumber, tableImageNumber, readTable, markingImageNumber, readMarking, writeNumber, fresh}
-use Rattle.rules.specs.Image.{eventsIn, recordImage, recordImages, markingImage}
+use Rattle.rules.specs.Pieces.{pieces}
+use Rattle.rules.specs.Image.{eventsIn, recordImage, eventImage, markingImage}
 use Rattle.rules.specs.Enabled.{enabledAnswer}
 use Rattle.rules.specs.Time.{dueAnswer, plainTickNumber, plainTick}
 use Rattle.rules.specs.Ask.{requestNumber, reportNumber, request, report}
@@ -70,8 +71,8 @@ pub record EveryCall (P : ℕ → Type 0) : Type 0 where
   pub of-station-answers : (input : List ℕ) (i : ℕ) → i < length (stepsPart input) / 2 → P (getD (station input) i 0)
 
 -- a marking image is not one byte
-no-byte : (m : Marking) (at n byte : ℕ) → recordImages m at n ≡ byte ∷ [] → ⊥
-unfolding recordImages recordImage bytesOf
+no-byte : (m : Marking) (at n byte : ℕ) → pieces (eventImage m) at n ≡ byte ∷ [] → ⊥
+unfolding pieces recordImage bytesOf
 no-byte m at zero byte e = omega (arith, ap length e)
 no-byte m at (suc n) byte e = omega (arith, ap length e)
 

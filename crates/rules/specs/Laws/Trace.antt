@@ -209,17 +209,24 @@ module _ (t : Table) (m : Marking) (bytes buffer : List ℕ) (i : ℕ) (now : Ma
       let all = after-all t m (stepsIn bytes) buffer i now held f (e ∙ sym (steps-length bytes)) in
       (all .0, all .1 ∙ ap {B = List ℕ} (λ k. answersOf t m (stepsIn bytes) ++ drop k buffer) (steps-length bytes))
 
+-- A trace that is granted has room in the buffer, and is not too long
+pub trace-granted : (steps room : ℕ) → traceNumber steps room ≡ 0 → (steps ≤ room) × (steps ≤ mostSteps)
+unfolding traceNumber
+trace-granted steps room h =
+    let long = ltb mostSteps steps in
+    let tight = ltb room steps in
+    let p = neither long tight (if-done 13 (long || tight) h) in
+    (ltb-false room steps (p .1), ltb-false mostSteps steps (p .0))
+
+pub bytes-granted : (t : Table) (m : Marking) (bytes : List ℕ) (room : ℕ) → bytesNumber t m bytes room ≡ 0
+    → (judged t m ≡ 0) × ((length bytes / 2 ≤ room) × (length bytes / 2 ≤ mostSteps))
+bytes-granted t m bytes room h =
+    let p = both-done (judged t m) _ h in
+    let q = both-done (1 if eqb (length bytes % 2) 1) _ (p .1) in
+    (p .0, trace-granted (length bytes / 2) room (q .1))
+
 -- The whole trace, in bytes: granted, or refused
 module _ (t : Table) (m : Marking) (bytes buffer : List ℕ) where
-  pub bytes-granted : bytesNumber t m bytes (length buffer) ≡ 0 → (judged t m ≡ 0) × (length bytes / 2 ≤ length buffer)
-  unfolding traceNumber
-  bytes-granted h =
-      let long = ltb mostSteps (length bytes / 2) in
-      let tight = ltb (length buffer) (length bytes / 2) in
-      let p = both-done (judged t m) _ h in
-      let q = both-done (1 if eqb (length bytes % 2) 1) _ (p .1) in
-      (p .0, ltb-false (length buffer) (length bytes / 2) (neither long tight (if-done 13 (long || tight) (q .1)) .1))
-
   pub bytes-done : bytesNumber t m bytes (length buffer) ≡ 0
       → (record { number = 0; marking = endOf t m (stepsIn bytes) } ≡ runBytes t m bytes (length buffer))
       × (answersOf t m (stepsIn bytes) ++ drop (length bytes / 2) buffer ≡ runBytesAnswers t m bytes buffer)

@@ -5,7 +5,7 @@ use Prim.Native.Nat.{ℕ}
 use native.Mathlib.Omega.{arith}
 use lib.ListN.{set}
 use lib.Seq.{length-take-le}
-use Rattle.engine.specs.Heard.{Told}
+use Rattle.duties.specs.Noted.{Told}
 use Rattle.engine.specs.Laws.Heard.{marking-refused, marking-read, steps-there, told-one}
 use borrow.Author.Needs.{needs}
 use Rattle.engine.proofs.heard.after_table.Statement.{statement}

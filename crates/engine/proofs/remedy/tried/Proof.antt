@@ -1,42 +1,51 @@
--- One pass. The invariant is the law's: what is left of the list is searched from the trial's marking. Assumes nothing.
-use mathlib.Core.Path.{_≡_, refl, subst, sym, _∙_}
-use Prim.Native.Nat.{_≤_, _+_, _-_}
+-- One pass. What is known on the way is the law's: the words stand for the marking after the events caused so far. Assumes nothing.
+use mathlib.Core.Path.{_≡_, refl, sym, _∙_}
+use Prim.Native.Nat.{_≤_, _<_, _-_}
 use native.Mathlib.Omega.{arith}
-use lib.ListN.{length, getD}
-use Rattle.rules.specs.declared.Marking.{Marking}
-use Rattle.rules.specs.Time.{anyDue}
-use Rattle.rules.specs.Laws.Tests.{both, not-true, not-false}
-use Rattle.rules.specs.Laws.Judge.{good}
-use Rattle.rules.specs.Laws.Remedy.{mayCause, Passed, passed-none, passed-more}
-use Rattle.engine.specs.Laws.Trial.{tried-here, tried-all}
+use lib.ListN.{length}
+use borrow.Author.Needs.{needs}
+use Rattle.rules.specs.Laws.Tests.{not-true, not-false}
+use Rattle.engine.specs.Laws.Trial.{Trying, trying-none, trying-more, trying-stopped, trying-ended}
 use Rattle.engine.proofs.remedy.tried.Statement.{statement}
 use Rattle.engine.proofs.remedy.tried.Tie as tie
 
 abbrev Inv-loop : tie.InvT-loop
-Inv-loop t list n trial₀ i₀ trial i = (i ≤ length list) × ((n ≡ length list) × Passed t trial₀ list i trial)
+Inv-loop rows links head sets₀ columns₀ list n i₀ sets columns i =
+    (i ≤ length list) × (n ≡ length list) × Trying rows links head list i sets₀ columns₀ sets columns
 
 abbrev μ-loop : tie.MeasureT-loop
-μ-loop t list n trial₀ i₀ trial i = n - i
+μ-loop rows links head sets₀ columns₀ list n i₀ sets columns i = n - i
 
 loop-holds : tie.Need-loop-holds Inv-loop μ-loop
-loop-holds c = (omega arith, (refl, passed-none _ _ _ (c .before .pre)))
+loop-holds c = (omega arith, refl, trying-none _ _ _ _ _ _)
 
 shared-slice-read-e : tie.Need-shared-slice-read-e Inv-loop μ-loop
 shared-slice-read-e c = omega arith
 
 cast-e : tie.Need-cast-e Inv-loop μ-loop
-cast-e c = omega (arith, c .shared-slice-known2 .given (c .before .before .loop .i))
+cast-e c = omega (arith, c .shared-slice-known4 .given (c .before .before .loop .i))
 
 goes-on-requires : tie.Need-goes-on-requires Inv-loop μ-loop
-goes-on-requires c κs = c .before .before .loop .inv .1 .1 .still-judged
+goes-on-requires c κs = search needs
 
 returns : tie.Need-returns Inv-loop μ-loop
 returns c =
-    let at = c .before .before .before .before .loop in
-    tried-here _ _ _ (at .i) (at .trial) (at .inv .1 .1) (omega arith) (sym (c .before .goes-on .ensures) ∙ not-true _ (c .if1 .taken))
+    let at = c .before .before .before .before .before .before .loop in
+    let a = c .before .before .before .before .before .before .before .before .before .before .args in (
+      omega arith,
+      trying-stopped (a .rows .now) (a .links .now) (a .head) (a .list .now) (a .sets .now) (a .columns .now) (at .i) (at .sets) (at .columns) (at .inv .2) (omega arith) _
+          (not-true _ (c .if1 .taken)) (c .before .goes-on .ensures .0),
+    )
+
+mul-effect : tie.Need-mul-effect Inv-loop μ-loop
+mul-effect c = let b = c .before .goes-on .ensures .1 (not-false _ (c .if1 .left)) in let s = c .before .before .before .before .before .before .before .before .before .before in omega (arith, b, s .pre .1)
 
 effect-requires : tie.Need-effect-requires Inv-loop μ-loop
-effect-requires c κs = good _ _ (c .before .before .before .before .loop .inv .1 .1 .still-judged)
+effect-requires c κs =
+    let off = c .before .before in
+    let b = off .before .goes-on .ensures .1 (not-false _ (off .if1 .left)) in
+    let s = c .before .before .before .before .before .before .before .before .before .before .before .before in
+    (omega (arith, b, s .pre .1), omega (arith, b, s .pre .1, s .pre .2), s .pre .3, omega arith)
 
 add-i : tie.Need-add-i Inv-loop μ-loop
 add-i c = omega arith
@@ -46,19 +55,24 @@ loop-less c = omega arith
 
 loop-again : tie.Need-loop-again Inv-loop μ-loop
 loop-again c =
-    let at = c .before .before .before .before .before .loop in
-    let a = c .before .before .before .before .before .before .before .args in
-    let on = both (anyDue (at .trial)) (mayCause (a .t) (at .trial) (getD (a .list .now) (at .i) 0)) (sym (c .before .before .goes-on .ensures) ∙ not-false _ (c .before .if1 .left)) in (
+    let off = c .before .before .before in
+    let at = c .before .before .before .before .before .before .before .before .before .loop in
+    let s = c .before .before .before .before .before .before .before .before .before .before .before .before .before in
+    let a = s .args in
+    let yes = not-false _ (off .if1 .left) in (
       omega arith,
-      (
-        at .inv .1 .0,
-        subst (λ (k : Marking). Passed (a .t) (a .m) (a .list .now) (at .i + 1) k) (sym (c .effect .ensures))
-            (passed-more (a .t) (a .m) (a .list .now) (at .i) (at .trial) (at .inv .1 .1) (omega arith) (on .0) (on .1)),
-      ),
+      at .inv .1,
+      trying-more (a .rows .now) (a .links .now) (a .head) (a .list .now) (a .sets .now) (a .columns .now) (at .i) (at .sets) (at .columns) (at .inv .2) (omega arith) _ yes
+          (off .before .goes-on .ensures .1 yes) (s .pre .1) (off .before .goes-on .ensures .0) _ _ (c .effect .ensures),
     )
 
 returns-2 : tie.Need-returns-2 Inv-loop μ-loop
-returns-2 c = let at = c .before .loop in tried-all _ _ _ (at .i) (at .trial) (at .inv .1 .1) (at .inv .1 .0) (omega arith)
+returns-2 c =
+    let at = c .before .loop in
+    let a = c .before .before .before .before .before .args in (
+      omega arith,
+      trying-ended (a .rows .now) (a .links .now) (a .head) (a .list .now) (a .sets .now) (a .columns .now) (at .i) (at .sets) (at .columns) (at .inv .2) _ (at .inv .1) (omega arith),
+    )
 
 pub tried-spec : {M : Type 1} → statement M
 tried-spec =
@@ -71,6 +85,7 @@ tried-spec =
     cast-e
     goes-on-requires
     returns
+    mul-effect
     effect-requires
     add-i
     loop-less

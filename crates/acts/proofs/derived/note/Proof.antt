@@ -1,0 +1,119 @@
+-- The word of the relation's sort, and by whether it is in a chain its beginning, and its link. Assumes nothing.
+use mathlib.Core.Path.{_≡_, _∙_, ap}
+use mathlib.Core.Logic.{⊎-elim}
+use Prim.Native.Nat.{_<_}
+use native.Mathlib.Omega.{arith}
+use lib.ListN.{length, length-set}
+use borrow.Author.Needs.{needs}
+use Rattle.acts.specs.Laws.Derived.{sort-small, noted-chained, noted-alone}
+use Rattle.acts.proofs.derived.note.Statement.{statement}
+use Rattle.acts.proofs.derived.note.Tie as tie
+
+sort-requires : tie.Need-sort-requires
+sort-requires c κs = search needs
+
+-- the word of its sort is one of the row
+sort-few : (c : tie.After-sort) → c .sort .result < 8
+sort-few c = rw (c .sort .ensures) (sort-small (c .before .before .args .k))
+
+add-place : tie.Need-add-place
+add-place c = omega (arith, sort-few c)
+
+chain-requires : tie.Need-chain-requires
+chain-requires c κs = search needs
+
+mul-row : tie.Need-mul-row
+mul-row c = omega (arith, sort-few (c .before))
+
+slice-read-row : tie.Need-slice-read-row
+slice-read-row c = omega (arith, sort-few (c .before .before))
+
+add-first : tie.Need-add-first
+add-first c = search needs
+
+mul-link : tie.Need-mul-link
+mul-link c = search needs
+
+slice-read-link : tie.Need-slice-read-link
+slice-read-link c = search needs
+
+link-requires : tie.Need-link-requires
+link-requires c κs =
+    let s = c .before .before .before .before .before .before in
+    (omega arith, s .pre .1 .0, s .pre .1 .1)
+
+mul-links : tie.Need-mul-links
+mul-links c = search needs
+
+element-write-links : tie.Need-element-write-links
+element-write-links c = search needs
+
+add-rows : tie.Need-add-rows
+add-rows c = search needs
+
+mul-rows : tie.Need-mul-rows
+mul-rows c = search needs
+
+slice-write-rows : tie.Need-slice-write-rows
+slice-write-rows c = search needs
+
+cast-adding : tie.Need-cast-adding
+cast-adding c = search needs
+
+adding-requires : tie.Need-adding-requires
+adding-requires c κs = search needs
+
+mul-rows-2 : tie.Need-mul-rows-2
+mul-rows-2 c = omega (arith, sort-few (c .before .before .before .before .before))
+
+-- the rows stay as long as they were
+rows-kept : (c : tie.After-adding) → length (c .before .before .if1 .rows) ≡ length (c .before .before .before .before .before .before .before .args .rows .now)
+rows-kept c = ⊎-elim (λ w. ap length (w .3) ∙ simp length-set) (λ w. ap length (w .1)) (c .before .before .if1 .came)
+
+slice-write-rows-2 : tie.Need-slice-write-rows-2
+slice-write-rows-2 c = omega (arith, sort-few (c .before .before .before .before .before), rows-kept c)
+
+same-length : tie.Need-same-length
+same-length c = simp length-set (rows-kept c)
+
+returns : tie.Need-returns
+returns c =
+    let j = c .before .before in
+    let h = j .before .before .before in
+    let s = h .before .before in
+    let k = s .args .k in
+    let rows = s .args .rows .now in
+    let links = s .args .links .now in
+    ⊎-elim
+    (λ w.
+    let done = noted-chained links rows (s .args .at) (s .args .i) k (h .sort .ensures) (j .before .before .chain .ensures) (w .0 .taken) in
+    (rw (w .3, c .adding .ensures) (done .0), rw (w .4, w .2 .ensures, done .1)))
+    (λ w.
+    let done = noted-alone links rows (s .args .at) (s .args .i) k (h .sort .ensures) (j .before .before .chain .ensures) (w .0 .left) in
+    (rw (w .1, c .adding .ensures) (done .0), rw (w .2) (done .1)))
+    (j .if1 .came)
+
+pub note-spec : {M : Type 1} → statement M
+note-spec =
+    tie.close
+    (tie.spec
+    sort-requires
+    add-place
+    chain-requires
+    mul-row
+    slice-read-row
+    add-first
+    mul-link
+    slice-read-link
+    link-requires
+    mul-links
+    element-write-links
+    add-rows
+    mul-rows
+    slice-write-rows
+    cast-adding
+    adding-requires
+    mul-rows-2
+    slice-write-rows-2
+    same-length
+    returns)

@@ -1,0 +1,172 @@
+-- The effect of e on words: each field of each record by itself, and so the words after it stand for the marking after it. Assumes nothing.
+use mathlib.Core.Path.{_≡_, refl, _∙_, ap, sym}
+use mathlib.Core.Bool.{Bool, true, false, not, cond, _&&_, _||_, and-true, or-true}
+use mathlib.Core.List.{List}
+use Prim.Native.Nat.{ℕ, _<_, _≤_, _+_, _-_}
+use native.Mathlib.Decide.{ℕ-discrete}
+use native.Mathlib.Nat.{zero-add}
+use native.Mathlib.Omega.{arith}
+use lib.Dec.{eqb}
+use lib.ListN.{length, getD, set, length-set}
+use lib.Seq.{getD-set-same, getD-set-other}
+use borrow.Author.Tests.{eq-eqb, ne-eqb}
+use Rattle.rules.specs.declared.Table.{Table}
+use Rattle.rules.specs.declared.Record.{Record}
+use Rattle.rules.specs.declared.Marking.{Marking}
+use Rattle.rules.specs.EventSet.{has}
+use Rattle.rules.specs.Holds.{limit}
+use Rattle.rules.specs.Effect.{Deadline, none, eventually, within, isPending, isBounded, ticksOf, response, includes, excludes, executed, withDeadline, withInclusion, responded, effectAt, effect}
+use Rattle.rules.specs.Laws.Tests.{and-false, or-false}
+use Rattle.rules.specs.Laws.EventSet.{withEvent, has-with}
+use Rattle.rules.specs.Laws.Judge.{GoodTable}
+use Rattle.acts.specs.Derived.{Own}
+use Rattle.acts.specs.Stands.{ageAt, ticksAt, recordAt, Stands}
+use Rattle.acts.specs.Acting.{includedAfter, pendingAfter, boundedAfter, Answered}
+use Rattle.acts.specs.Laws.Sorted.{responses-are, bounded-are, inclusions-are, exclusions-are}
+use Rattle.acts.specs.Laws.Stands.{each-stands, fourOf, four}
+
+included-by : (i out put : Bool) → ((i && not out) || put) ≡ cond put true (cond out false i)
+included-by true true true = refl
+included-by true true false = refl
+included-by true false true = refl
+included-by true false false = refl
+included-by false out true = refl
+included-by false true false = refl
+included-by false false false = refl
+
+-- A record by its fields: with its age and its ticks, if it has happened and if it is bounded.
+module _ (age ticks : ℕ) (h i p b : Bool) where
+  abbrev before : Record
+  before = record { age = cond h age 0; deadline = cond b ticks 0; happened = h; included = i; pending = p; bounded = b }
+
+  -- after e: by the deadline that e gives, and by whether it is e itself, is excluded, is included
+  unfoldable fieldsAfter : Deadline → Bool → Bool → Bool → Record
+  fieldsAfter d own out put = record {
+    age = cond (h || own) (cond own 0 age) 0;
+    deadline = cond ((b && not (isPending d || own)) || isBounded d) (cond (isBounded d) (ticksOf d) ticks) 0;
+    happened = h || own;
+    included = (i && not out) || put;
+    pending = (p && not own) || isPending d;
+    bounded = (b && not (isPending d || own)) || isBounded d;
+  }
+
+  abbrev includedBy : Bool → Bool → Record → Record
+  includedBy out put r = record {
+    age = r .age;
+    deadline = r .deadline;
+    happened = r .happened;
+    included = cond put true (cond out false (r .included));
+    pending = r .pending;
+    bounded = r .bounded;
+  }
+
+  fields-are : (d : Deadline) (own out put : Bool) → fieldsAfter d own out put ≡ responded d (includedBy out put (cond own (executed before) before))
+  unfolding fieldsAfter executed withDeadline
+  fields-are none true out put = rw (or-true h, and-false p, and-false b, included-by i out put)
+  fields-are eventually true out put = rw (or-true h, and-false p, and-false b, included-by i out put)
+  fields-are (within c) true out put = rw (or-true h, and-false p, and-false b, included-by i out put)
+  fields-are none false out put = rw (or-false h, and-true p, or-false p, and-true b, or-false b, included-by i out put)
+  fields-are eventually false out put = rw (or-false h, and-true p, or-true p, and-false b, included-by i out put)
+  fields-are (within c) false out put = rw (or-false h, and-true p, or-true p, and-false b, included-by i out put)
+
+-- the age and the ticks that are read of a date
+aged : (own : Bool) (clock full : ℕ) → limit - (cond own (clock + limit) full - clock) ≡ cond own 0 (limit - (full - clock))
+aged true clock full = omega arith
+aged false clock full = refl
+
+begun : (own : Bool) (clock full : ℕ) → full ≤ clock + limit → cond own (clock + limit) full ≤ clock + limit
+begun true clock full b = omega arith
+begun false clock full b = b
+
+left-to-go : (given : Bool) (clock ticks until : ℕ) → cond given (clock + ticks) until - clock ≡ cond given ticks (until - clock)
+left-to-go true clock ticks until = omega arith
+left-to-go false clock ticks until = refl
+
+same-order : (e x : ℕ) → eqb e x ≡ eqb x e
+same-order e x =
+    elim (ℕ-discrete e x) [
+      | yes q ↦ eq-eqb e x q ∙ sym (eq-eqb x e (sym q))
+      | no n ↦ ne-eqb e x n ∙ sym (ne-eqb x e (λ q. n (sym q)))
+    ]
+
+-- one place of a list
+stored : (l : List ℕ) (e x v : ℕ) → e < length l → getD (set l e v) x 0 ≡ cond (eqb e x) v (getD l x 0)
+stored l e x v b =
+    elim (ℕ-discrete x e) [
+      | yes q ↦ rw (q, eq-eqb e e refl) (getD-set-same l e v 0 b)
+      | no n ↦ rw (ne-eqb e x (λ q. n (sym q))) (getD-set-other l e x v 0 n)
+    ]
+
+module _ (t : Table) (good : GoodTable t) (e : ℕ) (rows : List ℕ) (at : ℕ) (links : List ℕ) (own : Own t (t .count) e rows at links) (exists : e < t .events)
+    (tail : List Record) (clock : ℕ) (sets columns : List ℕ) (m : Marking) (stands : Stands (t .events) tail clock sets columns m)
+    (happened included pending bounded : ℕ) (columns-after : List ℕ)
+    (happened-is : happened ≡ withEvent (getD sets 0 0) e)
+    (included-is : (x : ℕ) → has included x ≡ includedAfter rows at (getD sets 1 0) x)
+    (pending-is : (x : ℕ) → has pending x ≡ pendingAfter rows at (getD sets 2 0) e x)
+    (bounded-is : (x : ℕ) → has bounded x ≡ boundedAfter rows at (getD sets 3 0) e x)
+    (answers : length (set columns (0 + e) (clock + limit)) ≡ 128 → Answered t e clock (set columns (0 + e) (clock + limit)) columns-after)
+  where
+    two-columns : length (set columns (0 + e) (clock + limit)) ≡ 128
+    two-columns = length-set columns (0 + e) (clock + limit) ∙ stands .two-columns
+
+    answered : Answered t e clock (set columns (0 + e) (clock + limit)) columns-after
+    answered = answers two-columns
+
+    abbrev sets-after : List ℕ
+    sets-after = fourOf sets happened included pending bounded
+
+    -- e's age begins anew
+    ages : (x : ℕ) → x < 64 → getD columns-after x 0 ≡ cond (eqb e x) (clock + limit) (getD columns x 0)
+    ages x b =
+        answered .ages x b ∙ ap (λ (place : ℕ). getD (set columns place (clock + limit)) x 0) (zero-add e)
+        ∙ stored columns e x (clock + limit) (omega (arith, stands .two-columns, stands .few))
+
+    deadlines : (x : ℕ) → x < 64
+        → getD columns-after (64 + x) 0 ≡ cond (isBounded (response t e x)) (clock + ticksOf (response t e x)) (getD columns (64 + x) 0)
+    deadlines x b =
+        answered .deadlines x b
+        ∙ ap (cond (isBounded (response t e x)) (clock + ticksOf (response t e x)))
+        (getD-set-other columns (0 + e) (64 + x) (clock + limit) 0 (λ q. absurd (omega (arith, q, stands .few))))
+
+    record-is : (x : ℕ) → x < t .events → effectAt t e x (recordAt clock sets columns x) ≡ recordAt clock sets-after columns-after x
+    unfolding effectAt withInclusion recordAt fieldsAfter
+    record-is x b =
+        let small : x < 64 = omega (arith, stands .few) in
+        let d = response t e x in
+        let written = four sets happened included pending bounded (stands .four-sets) in
+        sym (rw (
+          written .0,
+          written .1,
+          written .2,
+          written .3,
+          ap (λ (w : ℕ). has w x) happened-is ∙ has-with (getD sets 0 0) e x,
+          included-is x,
+          pending-is x,
+          bounded-is x,
+          own .row 3 (omega arith) x,
+          own .row 4 (omega arith) x,
+          own .row 5 (omega arith) x,
+          own .row 6 (omega arith) x,
+          own .row 7 (omega arith) x,
+          responses-are t e x good,
+          bounded-are t e x good,
+          inclusions-are t e x good,
+          exclusions-are t e x good,
+          ages x small,
+          aged (eqb e x) clock (getD columns x 0),
+          deadlines x small,
+          left-to-go (isBounded d) clock (ticksOf d) (getD columns (64 + x) 0),
+          same-order e x,
+        )
+        (fields-are (ageAt clock columns x) (ticksAt clock columns x)
+        (has (getD sets 0 0) x) (has (getD sets 1 0) x) (has (getD sets 2 0) x) (has (getD sets 3 0) x)
+        d (eqb x e) (excludes t e x) (includes t e x)))
+
+    pub effect-stands : Stands (t .events) tail clock sets-after columns-after (effect t m e)
+    unfolding effect
+    effect-stands =
+        each-stands (t .events) tail clock sets columns m stands (effectAt t e) clock sets-after columns-after
+        (four sets happened included pending bounded (stands .four-sets) .4)
+        (answered .same-size ∙ two-columns)
+        (λ x b. rw (ages x (omega (arith, b, stands .few))) (begun (eqb e x) clock (getD columns x 0) (stands .ages-begun x b)))
+        record-is

@@ -1,0 +1,112 @@
+// The effect of an event on the words of a marking. The event's row says which events are included, excluded and asked for; a walk over its
+// bounded responses gives them their deadlines. No other relation is looked at.
+use crate::derived;
+use crate::event_set;
+use crate::laid;
+use crate::laid::Columns;
+use crate::word;
+use rules::Marking;
+ghost use mathlib.Core.Path.{_≡_};
+ghost use mathlib.Core.Bool.{cond};
+ghost use mathlib.Core.List.{List};
+ghost use Prim.Native.Nat.{ℕ, _<_, _≤_, _+_, min};
+ghost use lib.ListN.{length, getD};
+ghost use Rattle.rules.specs.declared.Record.{Record};
+ghost use Rattle.rules.specs.declared.Marking.{Marking as Marked};
+ghost use Rattle.rules.specs.declared.Table.{Table};
+ghost use Rattle.rules.specs.EventSet.{has};
+ghost use Rattle.rules.specs.Effect.{effect};
+ghost use Rattle.rules.specs.Laws.Judge.{GoodTable};
+ghost use Rattle.acts.specs.Derived.{Own};
+ghost use Rattle.acts.specs.Stands.{Stands};
+ghost use Rattle.acts.specs.Acting.{includedAfter, pendingAfter, boundedAfter, Answered};
+
+// The included events after it; inclusion wins over exclusion.
+fn included_after(rows: &[u64], at: usize, included: u64) -> u64
+    requires { ⌜ at + 10 ≤ length (now rows) ⌝ }
+    ensures { λ r. ⌜ ((x : ℕ) → has r x ≡ includedAfter (now (rows .entry)) at included x) ⌝ }
+{
+    let put = rows[at + derived::INCLUSION] | rows[at + derived::ITSELF];
+    word::without(included, rows[at + derived::EXCLUSION]) | put
+}
+
+// The pending events after e.
+fn pending_after(rows: &[u64], at: usize, pending: u64, e: usize) -> u64
+    requires { ⌜ (at + 10 ≤ length (now rows)) × (e < 64) ⌝ }
+    ensures { λ r. ⌜ ((x : ℕ) → has r x ≡ pendingAfter (now (rows .entry)) at pending e x) ⌝ }
+{
+    let asked = rows[at + derived::BOUNDED] | rows[at + derived::EVENTUAL];
+    word::without(pending, 1 << e) | asked
+}
+
+// The events with a deadline after e.
+fn bounded_after(rows: &[u64], at: usize, bounded: u64, e: usize) -> u64
+    requires { ⌜ (at + 10 ≤ length (now rows)) × (e < 64) ⌝ }
+    ensures { λ r. ⌜ ((x : ℕ) → has r x ≡ boundedAfter (now (rows .entry)) at bounded e x) ⌝ }
+{
+    let soon = rows[at + derived::BOUNDED];
+    let cleared = word::adding(soon | rows[at + derived::EVENTUAL], e);
+    word::without(bounded, cleared) | soon
+}
+
+// The earlier of a new date and the old one, if that was given here too.
+fn earlier(known: bool, until: u32, old: u32) -> u32
+    ensures { λ r. ⌜ r ≡ cond known (min until old) until ⌝ }
+{
+    if known {
+        if old < until {
+            return old;
+        }
+    }
+    until
+}
+
+// The deadlines that the event's responses give. The walk ends since the numbers of its links fall.
+fn answered(rows: &[u64], at: usize, links: &[u64], clock: u32, columns: &mut Columns)
+    requires { ⌜ (at + 10 ≤ length (now rows)) × (length (now links) ≡ 256) × (clock ≤ 2147483648) ⌝ }
+    ensures { λ _. ⌜ ((t : Table) (e : ℕ) → GoodTable t → Own t (t .count) e (now (rows .entry)) at (now (links .entry)) → length (now (columns .entry)) ≡ 128
+        → Answered t e clock (now (columns .entry)) (now (columns .exit))) ⌝ }
+{
+    let mut next = rows[at + derived::RESPONSES] % 512;
+    let mut seen: u64 = 0;
+    while next != 0 {
+        let w = links[(next - 1) as usize % 256];
+        let x = (w / 512 % 64) as usize;
+        let until = clock + (w / 32_768 % 1_073_741_824) as u32;
+        let place = laid::DEADLINES + x;
+        columns[place] = earlier(event_set::has_event(seen, x), until, columns[place]);
+        seen = word::adding(seen, x);
+        let before = w % 512;
+        if next <= before {
+            return;
+        }
+        next = before;
+    }
+}
+
+// The effect of e, whose row stands from `at` on.
+pub fn effect(
+    rows: &[u64],
+    at: usize,
+    links: &[u64],
+    clock: u32,
+    sets: &mut [u64; 4],
+    columns: &mut Columns,
+    e: usize,
+)
+    requires { ⌜ (e < 64) × (at + 10 ≤ length (now rows)) × (length (now links) ≡ 256) × (clock ≤ 2147483648) ⌝ }
+    ensures { λ _. ⌜ ((t : Table) (tail : List Record) (m : Marked) → GoodTable t → Own t (t .count) e (now (rows .entry)) at (now (links .entry)) → e < t .events
+        → Stands (t .events) tail clock (now (sets .entry)) (now (columns .entry)) m
+        → Stands (t .events) tail clock (now (sets .exit)) (now (columns .exit)) (effect t m e)) ⌝ }
+{
+    let happened = sets[laid::HAPPENED];
+    let included = sets[laid::INCLUDED];
+    let pending = sets[laid::PENDING];
+    let bounded = sets[laid::BOUNDED];
+    sets[laid::HAPPENED] = word::adding(happened, e);
+    sets[laid::INCLUDED] = included_after(rows, at, included);
+    sets[laid::PENDING] = pending_after(rows, at, pending, e);
+    sets[laid::BOUNDED] = bounded_after(rows, at, bounded, e);
+    columns[laid::AGES + e] = clock + Marking::AGE_LIMIT;
+    answered(rows, at, links, clock, columns);
+}

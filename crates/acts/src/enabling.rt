@@ -1,0 +1,36 @@
+// Whether an event is enabled, and what holds it up.
+use crate::blocking::first_blocking;
+use rules::HoldUpAnswer;
+use rules::Marking;
+use rules::Table;
+ghost use mathlib.Core.Path.{_≡_};
+ghost use Prim.Native.Nat.{_<_};
+ghost use Rattle.rules.specs.Enabled.{isEnabled};
+ghost use Rattle.rules.specs.HoldUp.{holdUpOf};
+ghost use Rattle.rules.specs.Laws.Judge.{Good};
+
+pub fn is_enabled(t: Table, m: Marking, e: usize) -> bool
+    requires { ⌜ Good t m ⌝ }
+    requires { ⌜ e < 64 ⌝ }
+    ensures { λ r. ⌜ r ≡ isEnabled t m e ⌝ }
+{
+    if m.records[e].included {
+        return !(first_blocking(t, m, e) < t.count);
+    }
+    false
+}
+
+pub fn holding(t: Table, m: Marking, e: usize) -> HoldUpAnswer
+    requires { ⌜ Good t m ⌝ }
+    requires { ⌜ e < 64 ⌝ }
+    ensures { λ r. ⌜ r ≡ holdUpOf t m e ⌝ }
+{
+    if m.records[e].included {
+        let first = first_blocking(t, m, e);
+        if first < t.count {
+            return HoldUpAnswer::Blocked(first);
+        }
+        return HoldUpAnswer::Enabled;
+    }
+    HoldUpAnswer::Excluded
+}

@@ -1,0 +1,18 @@
+-- The number so far stands, and where it is 'done' the event must exist. Assumes nothing.
+use mathlib.Core.Path.{refl}
+use borrow.Author.Tests.{lt-ltb, le-ltb}
+use Rattle.rules.specs.Laws.Told.{stands}
+use Rattle.engine.proofs.judge.then_event.Statement.{statement}
+use Rattle.engine.proofs.judge.then_event.Tie as tie
+
+returns : tie.Need-returns
+returns c = rw (c .before .if1 .taken, lt-ltb _ _ (c .if2 .taken))
+
+returns-2 : tie.Need-returns-2
+returns-2 c = rw (c .before .if1 .taken, le-ltb _ _ (c .if2 .left))
+
+returns-3 : tie.Need-returns-3
+returns-3 c = stands _ refl (c .if1 .left)
+
+pub then-event-spec : {M : Type 1} → statement M
+then-event-spec = tie.close (tie.spec returns returns-2 returns-3)
