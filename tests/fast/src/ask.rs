@@ -1,9 +1,26 @@
 //! Request and report.
 
-use crate::decoded::{only, Marking, Table};
+use crate::decoded::{only, Marking, Relation, Table};
 use crate::effect::execute;
-use crate::enabled::is_enabled;
+use crate::enabled::stops;
 use crate::judge::judge_event;
+use crate::process::Leads;
+
+/// What the relations of an enabled event lead to; none where one of them stops it.
+#[inline]
+fn unless_stopped<'a>(own: impl Iterator<Item = &'a Relation>, m: &Marking) -> Option<Leads> {
+    let mut leads = Leads::default();
+    for k in own {
+        match k.kind {
+            2 => leads.responses |= only(k.right),
+            3 => leads.includes |= only(k.right),
+            4 => leads.excludes |= only(k.right),
+            _ if stops(k, m) => return None,
+            _ => {}
+        }
+    }
+    Some(leads)
+}
 
 #[inline]
 fn ask(t: &Table, m: &mut Marking, event: usize, controllable: bool) -> u8 {
@@ -14,10 +31,14 @@ fn ask(t: &Table, m: &mut Marking, event: usize, controllable: bool) -> u8 {
     if (t.controllable & only(event) != 0) != controllable {
         return 9;
     }
-    if !is_enabled(t, m, event) {
+    if !m.of(event).included {
         return 10;
     }
-    execute(t.used().iter(), m, event);
+    let own = t.used().iter().filter(|k| k.left == event);
+    let Some(leads) = unless_stopped(own.clone(), m) else {
+        return 10;
+    };
+    execute(m, event, leads, own);
     0
 }
 

@@ -2,6 +2,7 @@
 //! its place is looked for only where it applies.
 
 use crate::decoded::{only, Events, Marking, Relation, Table};
+use crate::flags::Flags;
 use crate::judge::judge;
 use crate::survey::{Row, Survey};
 
@@ -13,17 +14,6 @@ pub enum Verdict {
 
 fn rejects(reason: u8, place: usize) -> Verdict {
     Verdict::Rejects { reason, place }
-}
-
-/// The excluded events, and those that are bounded pending.
-#[inline]
-fn excluded_and_busy(m: &Marking) -> (u64, u64) {
-    let (mut excluded, mut busy) = (0, 0);
-    for (event, r) in m.used().iter().enumerate() {
-        excluded |= u64::from(!r.included) << event;
-        busy |= u64::from(r.pending & r.bounded) << event;
-    }
-    (excluded, busy)
 }
 
 /// Whether inhibition has no cycle among these events: depth first, each opened once.
@@ -79,10 +69,9 @@ fn place(t: &Table, closed: u64, applies: impl Fn(&Relation) -> bool) -> usize {
         .unwrap_or(t.count)
 }
 
-/// The verdict on a judged table and marking.
+/// The verdict on a judged table and the marking's excluded and busy events.
 #[inline]
-pub(crate) fn verdict(t: &Table, s: &Survey, m: &Marking) -> Verdict {
-    let (excluded, busy) = excluded_and_busy(m);
+pub(crate) fn verdict(t: &Table, s: &Survey, excluded: u64, busy: u64) -> Verdict {
     let unreportable = (excluded | s.unreportable) & !t.controllable;
     if unreportable != 0 {
         return rejects(1, unreportable.trailing_zeros() as usize);
@@ -124,10 +113,11 @@ pub(crate) fn verdict(t: &Table, s: &Survey, m: &Marking) -> Verdict {
 pub fn closure(t: &Table, m: &Marking) -> Result<u64, u8> {
     judge(t, m)?;
     let s = Survey::of(t);
-    Ok(s.widened(excluded_and_busy(m).1 | s.answers, Row::inhibitors))
+    Ok(s.widened(Flags::of(m).busy | s.answers, Row::inhibitors))
 }
 
 pub fn check(t: &Table, m: &Marking) -> Result<Verdict, u8> {
     judge(t, m)?;
-    Ok(verdict(t, &Survey::of(t), m))
+    let flags = Flags::of(m);
+    Ok(verdict(t, &Survey::of(t), flags.excluded, flags.busy))
 }

@@ -44,6 +44,12 @@ impl Table {
     pub(crate) fn used(&self) -> &[Relation] {
         &self.relations[..self.count]
     }
+
+    /// Its events, of a table that is judged.
+    #[inline]
+    pub(crate) fn all(&self) -> u64 {
+        u64::MAX >> (64 - self.events)
+    }
 }
 
 #[derive(Clone, Copy, PartialEq, Eq, Debug)]

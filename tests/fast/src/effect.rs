@@ -1,45 +1,43 @@
 //! The effect of an event.
 
-use crate::decoded::{only, Events, Marking, Relation};
+use crate::decoded::{Events, Marking, Relation};
+use crate::process::Leads;
 
-/// The event is executed; of the relations, those with it as left are looked at.
+/// The event is executed: what its relations lead to, and relations of it among
+/// which its bounded responses are.
 #[inline]
 pub(crate) fn execute<'a>(
-    relations: impl Iterator<Item = &'a Relation>,
     m: &mut Marking,
     event: u8,
+    leads: Leads,
+    own: impl Iterator<Item = &'a Relation>,
 ) {
-    let own = m.of_mut(event);
-    own.happened = true;
-    own.age = 0;
-    own.pending = false;
-    own.bounded = false;
-    own.deadline = 0;
-
-    let (mut included, mut excluded, mut answered) = (0, 0, 0);
-    for k in relations.filter(|k| k.left == event) {
-        let target = only(k.right);
-        match k.kind {
-            2 => {
-                // The first response replaces what the target had, a later one only a later deadline.
-                let r = m.of_mut(k.right);
-                let sooner = k.bounded && (!r.bounded || k.time < r.deadline);
-                if answered & target == 0 || sooner {
-                    answered |= target;
-                    r.pending = true;
-                    r.bounded = k.bounded;
-                    r.deadline = k.time;
-                }
+    let r = m.of_mut(event);
+    r.happened = true;
+    r.age = 0;
+    r.pending = false;
+    r.bounded = false;
+    r.deadline = 0;
+    if leads.responses != 0 {
+        for target in Events(leads.responses) {
+            let r = m.of_mut(target);
+            r.pending = true;
+            r.bounded = false;
+            r.deadline = 0;
+        }
+        for k in own.filter(|k| k.kind == 2 && k.bounded) {
+            let r = m.of_mut(k.right);
+            // The first replaces what the target had, a later one only a later deadline.
+            if !r.bounded || k.time < r.deadline {
+                r.deadline = k.time;
             }
-            3 => included |= target,
-            4 => excluded |= target,
-            _ => {}
+            r.bounded = true;
         }
     }
-    for target in Events(excluded & !included) {
+    for target in Events(leads.excludes) {
         m.of_mut(target).included = false;
     }
-    for target in Events(included) {
+    for target in Events(leads.includes) {
         m.of_mut(target).included = true;
     }
 }

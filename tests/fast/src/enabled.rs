@@ -20,14 +20,10 @@ fn first_blocking(t: &Table, m: &Marking, event: u8) -> Option<usize> {
     t.used().iter().position(|k| k.left == event && stops(k, m))
 }
 
-#[inline]
-pub(crate) fn is_enabled(t: &Table, m: &Marking, event: u8) -> bool {
-    m.of(event).included && first_blocking(t, m, event).is_none()
-}
-
 pub fn enabled(t: &Table, m: &Marking, event: usize) -> Result<bool, u8> {
     judge_event(t, m, event)?;
-    Ok(is_enabled(t, m, event as u8))
+    let event = event as u8;
+    Ok(m.of(event).included && first_blocking(t, m, event).is_none())
 }
 
 #[derive(Clone, Copy, PartialEq, Eq, Debug)]

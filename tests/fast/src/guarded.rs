@@ -1,67 +1,25 @@
 //! The guarded tick.
 
 use crate::check::{verdict, Verdict};
-use crate::decoded::{only, Events, Marking, Relation, Table};
+use crate::decoded::{only, Events, Marking, Table};
 use crate::effect::execute;
+use crate::flags::Flags;
 use crate::judge::judge;
+use crate::process::Process;
 use crate::survey::Survey;
-use crate::time::{due_set, tick};
+use crate::time::tick;
 
-/// The relations by their left event, so that an effect looks at its own alone.
-pub(crate) struct ByLeft {
-    /// Where an event's stretch of `order` starts; the next one's start ends it.
-    starts: [u16; 65],
-    order: [u8; 256],
-}
-
-impl ByLeft {
-    pub fn of(t: &Table) -> ByLeft {
-        let mut b = ByLeft {
-            starts: [0; 65],
-            order: [0; 256],
-        };
-        for k in t.used() {
-            b.starts[usize::from(k.left & 63) + 1] += 1;
-        }
-        for event in 0..64 {
-            b.starts[event + 1] += b.starts[event];
-        }
-        let mut next = b.starts;
-        for (number, k) in t.used().iter().enumerate() {
-            let place = &mut next[usize::from(k.left & 63)];
-            b.order[usize::from(*place & 255)] = number as u8;
-            *place += 1;
-        }
-        b
-    }
-
-    #[inline]
-    pub fn relations<'a>(&'a self, t: &'a Table, event: u8) -> impl Iterator<Item = &'a Relation> {
-        let event = usize::from(event & 63);
-        let (start, end) = (self.starts[event], self.starts[event + 1]);
-        self.order[usize::from(start)..usize::from(end)]
-            .iter()
-            .map(|&number| &t.relations[usize::from(number)])
-    }
-}
-
-/// The due events and, repeatedly, the included inhibitors that block them.
+/// The due events and, repeatedly, the included inhibitors that block them: those
+/// that never happened, for a condition, and the pending ones, for a milestone.
 #[inline]
-fn needed(s: &Survey, m: &Marking, due: u64) -> u64 {
-    let (mut missing, mut pending) = (0, 0);
-    for (event, r) in m.used().iter().enumerate() {
-        missing |= u64::from(r.included & !r.happened) << event;
-        pending |= u64::from(r.included & r.pending) << event;
-    }
-    s.widened(due, |row| {
-        row.conditions & missing | row.milestones & pending
-    })
+pub(crate) fn needed(s: &Survey, due: u64, missing: u64, open: u64) -> u64 {
+    s.widened(due, |row| row.conditions & missing | row.milestones & open)
 }
 
 /// Each needed event in order: the lowest that has no untaken needed inhibitor,
 /// again and again.
 #[inline]
-fn in_order(s: &Survey, needed: u64, mut take: impl FnMut(u8)) {
+pub(crate) fn in_order(s: &Survey, needed: u64, mut take: impl FnMut(u8)) {
     let mut waiting_for = [0u64; 64];
     let mut ready = 0;
     for event in Events(needed) {
@@ -87,41 +45,47 @@ fn in_order(s: &Survey, needed: u64, mut take: impl FnMut(u8)) {
     }
 }
 
-/// Takes what is needed, and lets one tick pass; how many events were caused.
-/// An index of the table that is at hand is used; one is made where it pays.
+/// The included events that never happened, and the included pending ones.
 #[inline]
-pub(crate) fn guarded(
-    t: &Table,
-    s: &Survey,
-    index: Option<&ByLeft>,
-    m: &mut Marking,
-    caused: &mut [u8; 64],
-) -> usize {
-    let due = due_set(m);
-    let mut count = 0;
-    if due != 0 {
-        let needed = needed(s, m, due);
-        let made;
-        let index = match index {
-            None if needed.count_ones() > 2 => {
-                made = ByLeft::of(t);
-                Some(&made)
-            }
-            given => given,
-        };
-        in_order(s, needed, |event| {
-            if m.of(event).included {
-                match index {
-                    Some(index) => execute(index.relations(t, event), m, event),
-                    None => execute(t.used().iter(), m, event),
-                }
-                caused[count & 63] = event;
-                count += 1;
-            }
-        });
+fn blocking(m: &Marking) -> (u64, u64) {
+    let (mut missing, mut open) = (0, 0);
+    for (event, r) in m.used().iter().enumerate() {
+        missing |= u64::from(r.included & !r.happened) << event;
+        open |= u64::from(r.included & r.pending) << event;
     }
-    tick(m);
+    (missing, open)
+}
+
+/// The needed events are taken, those that are executed written down; how many these are.
+#[inline]
+fn settle(p: &Process, m: &mut Marking, due: u64, caused: &mut [u8; 64]) -> usize {
+    let (missing, open) = blocking(m);
+    let mut count = 0;
+    in_order(p.survey, needed(p.survey, due, missing, open), |event| {
+        if m.of(event).included {
+            execute(m, event, p.leads(event), p.timed(event));
+            caused[count & 63] = event;
+            count += 1;
+        }
+    });
     count
+}
+
+/// The verdict, and how many events are caused before the tick.
+fn settled(t: &Table, m: &mut Marking, caused: &mut [u8; 64]) -> (Verdict, usize) {
+    let flags = Flags::of(m);
+    if flags.due == 0 {
+        let verdict = verdict(t, &Survey::of(t), flags.excluded, flags.busy);
+        return (verdict, 0);
+    }
+    Process::of(t, |p| {
+        let verdict = verdict(t, p.survey, flags.excluded, flags.busy);
+        let count = match verdict {
+            Verdict::Accepts => settle(p, m, flags.due, caused),
+            Verdict::Rejects { .. } => 0,
+        };
+        (verdict, count)
+    })
 }
 
 #[derive(Clone, Copy, PartialEq, Eq, Debug)]
@@ -145,10 +109,12 @@ pub fn guarded_tick(t: &Table, m: &mut Marking, caused: &mut [u8; 64]) -> Guarde
         answer.number = number;
         return answer;
     }
-    let s = Survey::of(t);
-    match verdict(t, &s, m) {
-        Verdict::Accepts => answer.count = guarded(t, &s, None, m, caused),
-        Verdict::Rejects { reason, place } => {
+    match settled(t, m, caused) {
+        (Verdict::Accepts, count) => {
+            tick(m);
+            answer.count = count;
+        }
+        (Verdict::Rejects { reason, place }, _) => {
             answer.number = 12;
             answer.reason = reason;
             answer.place = place;

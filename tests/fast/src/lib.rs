@@ -1,7 +1,9 @@
 //! The duty engine of document 01, written for speed: decoded values are
 //! borrowed and changed in place, event sets are words, one pass turns the
-//! relations into rows of words, nothing is allocated. It is what the proved
-//! engine's costs are held against.
+//! relations into rows of words, nothing is allocated. A call that executes many
+//! events has each event's own relations at hand; a run and a trial go by words
+//! and dates in place of records, and a run asks the check until it has accepted
+//! once. It is what the proved engine's costs are held against.
 
 #![forbid(unsafe_code)]
 
@@ -10,10 +12,13 @@ mod check;
 mod decoded;
 mod effect;
 mod enabled;
+mod flags;
 mod guarded;
 mod image;
 mod judge;
+mod process;
 mod remedies;
+mod state;
 mod survey;
 mod time;
 mod trace;

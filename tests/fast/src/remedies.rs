@@ -1,26 +1,22 @@
 //! Two offered remedies.
 
 use crate::decoded::{only, Marking, Table};
-use crate::effect::execute;
-use crate::enabled::is_enabled;
 use crate::judge::judge;
+use crate::process::Process;
+use crate::state::State;
 use crate::time::none_due;
 
-/// The length of the shortest start that discharges, tried on a copy.
-fn shortest(t: &Table, m: &Marking, list: &[u8]) -> Option<usize> {
-    if none_due(m) {
-        return Some(0);
-    }
-    let mut trial = *m;
+/// The length of the shortest start that discharges, where the empty one does not.
+fn shortest(p: &Process, mut trial: State, list: &[u8]) -> Option<usize> {
     for (before, &event) in list.iter().enumerate() {
-        let possible = usize::from(event) < t.events
-            && t.causable & only(event) != 0
-            && is_enabled(t, &trial, event);
+        let possible = usize::from(event) < p.table.events
+            && p.table.causable & only(event) != 0
+            && trial.enabled(p, event);
         if !possible {
             return None;
         }
-        execute(t.used().iter(), &mut trial, event);
-        if none_due(&trial) {
+        trial.execute(p, event);
+        if trial.due() == 0 {
             return Some(before + 1);
         }
     }
@@ -44,11 +40,17 @@ pub fn remedies<'a>(
     if preferred.len() > 255 || fallback.len() > 255 {
         return Err(14);
     }
-    if let Some(length) = shortest(t, m, preferred) {
-        return Ok(Remedy::Preferred(&preferred[..length]));
+    if none_due(m) {
+        return Ok(Remedy::Preferred(&preferred[..0]));
     }
-    if let Some(length) = shortest(t, m, fallback) {
-        return Ok(Remedy::Fallback(&fallback[..length]));
-    }
-    Err(13)
+    Process::of(t, |p| {
+        let state = State::of(m);
+        if let Some(length) = shortest(p, state, preferred) {
+            return Ok(Remedy::Preferred(&preferred[..length]));
+        }
+        if let Some(length) = shortest(p, state, fallback) {
+            return Ok(Remedy::Fallback(&fallback[..length]));
+        }
+        Err(13)
+    })
 }

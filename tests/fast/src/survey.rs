@@ -1,6 +1,6 @@
 //! What one pass over the relations says of each event, as words.
 
-use crate::decoded::{only, Table};
+use crate::decoded::{only, Relation, Table};
 
 /// The right events of the relations with one event as left.
 #[derive(Clone, Copy)]
@@ -36,6 +36,12 @@ pub(crate) struct Survey {
 impl Survey {
     #[inline]
     pub fn of(t: &Table) -> Survey {
+        Survey::with(t, |_, _| ())
+    }
+
+    /// Each relation is handed on, with its number.
+    #[inline]
+    pub fn with(t: &Table, mut hand_on: impl FnMut(usize, &Relation)) -> Survey {
         let mut s = Survey {
             conditions: [0; 64],
             milestones: [0; 64],
@@ -46,7 +52,7 @@ impl Survey {
             waiting: 0,
         };
         let (mut answers, mut unreportable, mut waiting) = (0, 0, 0);
-        for k in t.used() {
+        for (number, k) in t.used().iter().enumerate() {
             let place = usize::from(k.left & 63);
             let (left, right) = (only(k.left), only(k.right));
             match k.kind {
@@ -70,6 +76,7 @@ impl Survey {
                     unreportable |= left;
                 }
             }
+            hand_on(number, k);
         }
         s.answers = answers;
         s.unreportable = unreportable;

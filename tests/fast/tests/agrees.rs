@@ -6,7 +6,7 @@ use second::case::{Answer, Case, Pair};
 use second::rng::Rng;
 use second::{
     generate, CheckAnswer, EnabledAnswer, GuardedAnswer, HoldUpAnswer, MarginAnswer, MarkingAnswer,
-    ReadMarking, ReadTable, RemedyAnswer, SetAnswer,
+    ReadMarking, ReadTable, RemedyAnswer, SetAnswer, Step,
 };
 use std::collections::BTreeSet;
 
@@ -253,18 +253,18 @@ fn answer(case: &Case) -> Option<Answer> {
     })
 }
 
-/// Whether the case was of a call that this implementation has.
-fn agrees(case: &Case) -> bool {
-    let Some(given) = answer(case) else {
-        return false;
-    };
-    assert_eq!(given, case.answer(), "{case:?}");
-    true
+/// The second implementation's answer, where the case is of a call that this one
+/// has: it gives the same.
+fn agreed(case: &Case) -> Option<Answer> {
+    let given = answer(case)?;
+    let expected = case.answer();
+    assert_eq!(given, expected, "{case:?}");
+    Some(expected)
 }
 
 fn random_cases_agree(seed: u64) {
     let mut rng = Rng::new(seed);
-    let asked = (0..40_000).filter(|_| agrees(&generate::case(&mut rng)));
+    let asked = (0..40_000).filter(|_| agreed(&generate::case(&mut rng)).is_some());
     assert!(asked.count() > 30_000);
 }
 
@@ -288,10 +288,148 @@ fn cases_at_the_limits_agree() {
     let mut asked = BTreeSet::new();
     for call in &CALLS {
         for case in (call.edges)() {
-            if agrees(&case) {
+            if agreed(&case).is_some() {
                 asked.insert(case.name());
             }
         }
     }
     assert_eq!(asked.len(), 16);
+}
+
+/// How often each number comes up among the answers to steps of one kind.
+#[derive(Default, Debug)]
+struct Told([[usize; 16]; 4]);
+
+impl Told {
+    fn add(&mut self, steps: &[Step], answers: &[u8]) {
+        for (step, &number) in steps.iter().zip(answers) {
+            if let Some(of_kind) = self.0.get_mut(usize::from(step.kind)) {
+                of_kind[usize::from(number)] += 1;
+            }
+        }
+    }
+
+    /// Each of these numbers came up so often for steps of this kind.
+    fn shows(&self, kind: usize, numbers: &[usize], times: usize) {
+        for &number in numbers {
+            assert!(
+                self.0[kind][number] >= times,
+                "{number} for {kind}: {self:?}"
+            );
+        }
+    }
+}
+
+#[test]
+fn random_traces_agree() {
+    let mut rng = Rng::new(4);
+    let mut told = Told::default();
+    for _ in 0..20_000 {
+        let case = generate::run_case(&mut rng);
+        if let (Case::Run { steps, .. }, Some(Answer::Run { end, answers })) =
+            (&case, agreed(&case))
+        {
+            if end.number == 0 {
+                told.add(steps, &answers);
+            }
+        }
+    }
+    told.shows(0, &[0, 8, 9, 10], 1000);
+    told.shows(1, &[0, 8, 9, 10], 1000);
+    told.shows(2, &[0, 11, 15], 1000);
+    told.shows(3, &[0, 12, 15], 1000);
+}
+
+fn bit(event: usize) -> u64 {
+    2u64.pow(event as u32)
+}
+
+/// A pair that the check accepts, made one that it rejects until some event is
+/// executed: an uncontrollable event is excluded that another one includes, or an
+/// event that is not causable is to happen within some time.
+fn rejected_for_a_while(rng: &mut Rng) -> Option<Pair> {
+    let mut pair = generate::sound_pair(rng);
+    let (t, m) = (&mut *pair.table, &mut *pair.marking);
+    if second::check(t, m).number != 0 || t.count == t.relations.len() {
+        return None;
+    }
+    let event = rng.below(t.events);
+    let record = &mut m.records[event];
+    if t.controllable & bit(event) == 0 {
+        record.included = false;
+        t.relations[t.count] = generate::relation(3, rng.below(t.events), event, None);
+        t.count += 1;
+    } else if t.causable & bit(event) == 0 {
+        record.pending = true;
+        record.bounded = true;
+        record.deadline = rng.below(40) as u32;
+    }
+    (second::check(t, m).number != 0).then_some(pair)
+}
+
+/// Steps that a process of so many events might be asked for, mostly guarded ticks and
+/// events by the act that fits them.
+fn many_steps(rng: &mut Rng, t: &second::Table) -> Vec<Step> {
+    let step = |rng: &mut Rng| {
+        let event = rng.below(t.events);
+        match rng.below(10) {
+            0..=3 => Step { kind: 3, event: 0 },
+            4 => Step { kind: 2, event: 0 },
+            _ => Step {
+                kind: u8::from(t.controllable & bit(event) == 0),
+                event: event as u8,
+            },
+        }
+    };
+    (0..rng.between(20, 120)).map(|_| step(rng)).collect()
+}
+
+/// Whether the check rejects, and then accepts, within one trace.
+fn comes_to_accept(steps: &[Step], answers: &[u8]) -> bool {
+    let mut of_guarded = steps
+        .iter()
+        .zip(answers)
+        .filter(|(step, _)| step.kind == 3)
+        .map(|(_, &number)| number);
+    of_guarded.any(|number| number == 12) && of_guarded.any(|number| number == 0)
+}
+
+#[test]
+fn traces_in_which_the_check_comes_to_accept_agree() {
+    let mut rng = Rng::new(5);
+    let mut came = 0;
+    for _ in 0..20_000 {
+        let Some(pair) = rejected_for_a_while(&mut rng) else {
+            continue;
+        };
+        let steps = many_steps(&mut rng, &pair.table);
+        let answers = vec![7; steps.len()];
+        let case = Case::Run {
+            pair,
+            steps: steps.clone(),
+            answers,
+        };
+        if let Some(Answer::Run { answers, .. }) = agreed(&case) {
+            came += usize::from(comes_to_accept(&steps, &answers));
+        }
+    }
+    assert!(came > 1000, "{came}");
+}
+
+#[test]
+fn random_remedies_agree() {
+    let mut rng = Rng::new(6);
+    let (mut preferred, mut fallback, mut longer, mut none) = (0, 0, 0, 0);
+    for _ in 0..20_000 {
+        if let Some(Answer::Remedy(a)) = agreed(&generate::remedies_case(&mut rng)) {
+            match (a.number, a.from_fallback) {
+                (0, false) => preferred += 1,
+                (0, true) => fallback += 1,
+                (13, _) => none += 1,
+                _ => {}
+            }
+            longer += usize::from(a.length > 2);
+        }
+    }
+    assert!([preferred, fallback, longer, none].iter().all(|&n| n > 500));
 }

@@ -2,7 +2,9 @@
 
 use crate::calls::Calls;
 use crate::sized::{self, Size};
+use second::case::{Case as Question, Pair};
 use second::generate::{marking_image, table_image};
+use second::Step;
 
 pub const SIZES: [Size; 9] = [
     Size::of(4, 8),
@@ -16,7 +18,10 @@ pub const SIZES: [Size; 9] = [
     Size::of(64, 256),
 ];
 
-const STEPS: usize = 4096;
+/// The sizes that are shown in full.
+pub const GROWING: [Size; 3] = [Size::of(4, 8), Size::of(16, 64), Size::of(64, 256)];
+
+pub const STEPS: usize = 4096;
 
 /// What the cases of one size are made of.
 pub struct Input {
@@ -44,6 +49,32 @@ impl Input {
             steps: sized::steps(size, STEPS),
             buffer: vec![0; STEPS],
         }
+    }
+}
+
+/// The runner's case as a question of the bench, over bytes or over a list of steps,
+/// with room for so many answers.
+pub fn run(size: Size, over_bytes: bool, room: usize) -> Question {
+    let pair = Pair {
+        table: Box::new(sized::table(size)),
+        marking: Box::new(sized::quiet(size)),
+    };
+    let (steps, answers) = (sized::steps(size, STEPS), vec![0; room]);
+    if over_bytes {
+        return Question::RunBytes {
+            pair,
+            steps,
+            answers,
+        };
+    }
+    let list = steps.chunks_exact(2).map(|step| Step {
+        kind: step[0],
+        event: step[1],
+    });
+    Question::Run {
+        pair,
+        steps: list.collect(),
+        answers,
     }
 }
 

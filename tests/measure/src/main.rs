@@ -1,17 +1,19 @@
 //! `measure alike` has both sides make each case's calls and compares their sums;
-//! `measure` prints what a call costs on both sides, in instructions and in
-//! nanoseconds; `measure stack` reads a disassembly and prints the stack that each
-//! exported call takes.
+//! `measure costs WORD..` prints what a call costs on both sides, in instructions
+//! and in nanoseconds, and what the runners cost in the bench's program, which the
+//! words run; `measure instructions` writes the proved side's as figures; `measure
+//! stack` reads a disassembly and prints the stack that each exported call takes.
 
 mod clock;
 mod count;
 mod proved;
 mod table;
+mod through;
 
 use measure::baseline::Baseline;
 use measure::calls::Calls;
 use measure::cases::{Input, CASES, SIZES};
-use measure::stack::Program;
+use measure::stack::{Program, CYCLES};
 use proved::Proved;
 use std::io::Read;
 use std::process::ExitCode;
@@ -39,49 +41,36 @@ fn alike() -> Result<(), String> {
     Ok(())
 }
 
-fn costs() -> Result<(), String> {
+fn costs(program: &[String]) -> Result<(), String> {
     alike()?;
     table::print("Instructions", &count::all()?);
+    table::print_through(&through::rows(program)?);
     table::print("Nanoseconds", &clock::all());
     Ok(())
 }
 
-/// A call that does not read an image is handed decoded values: that the loop
-/// reads them before it is left out. A call for C reads its images itself.
 fn stack() -> Result<(), String> {
     let mut text = String::new();
     let read = std::io::stdin().read_to_string(&mut text);
     read.map_err(|error| error.to_string())?;
-    let mut program = Program::read(&text)?;
-    let names: Vec<String> = program.names("timing_").cloned().collect();
-    for name in &names {
-        let call = name.trim_start_matches("timing_");
-        if !call.starts_with("read_") && call != "station" {
-            program.leave_out(name, "image::read_table");
-            program.leave_out(name, "image::read_marking");
-        }
-    }
     println!("| call | bytes | deepest way |\n|---|---:|---|");
-    let for_c: Vec<String> = program.names("duty_").cloned().collect();
-    for name in names.iter().chain(&for_c) {
-        let (bytes, way) = program.deepest(name, &[])?;
-        let call = name.trim_start_matches("timing_");
-        println!("| {call} | {bytes} | {} |", way[1..].join(", "));
+    for depth in Program::read(&text, &CYCLES)?.depths()? {
+        let way = depth.way.join(", ");
+        println!("| {} | {} | {way} |", depth.call, depth.bytes);
     }
     Ok(())
 }
 
 fn main() -> ExitCode {
-    let word = std::env::args().nth(1);
-    let told = match word.as_deref() {
-        None => costs(),
-        Some("alike") => alike(),
-        Some("counted") => {
-            count::run();
-            Ok(())
-        }
-        Some("stack") => stack(),
-        Some(_) => Err("usage: measure [alike | stack]".to_string()),
+    let words: Vec<String> = std::env::args().skip(1).collect();
+    let (mode, rest) = words.split_first().unzip();
+    let told = match (mode.map(String::as_str), rest.unwrap_or(&[])) {
+        (Some("alike"), []) => alike(),
+        (Some("costs"), program) if !program.is_empty() => costs(program),
+        (Some("instructions"), []) => count::proved().map(|section| println!("{section}")),
+        (Some("counted"), [plan]) => count::run(plan),
+        (Some("stack"), []) => stack(),
+        _ => Err("usage: measure (alike | costs WORD.. | instructions | stack)".to_string()),
     };
     match told {
         Ok(()) => ExitCode::SUCCESS,

@@ -3,6 +3,7 @@
 
 use second::generate::relation;
 use second::{Marking, Record, Relation, Table};
+use std::fmt;
 
 /// How many events and relations.
 #[derive(Clone, Copy, PartialEq, Eq, Debug)]
@@ -14,6 +15,12 @@ pub struct Size {
 impl Size {
     pub const fn of(events: usize, relations: usize) -> Size {
         Size { events, relations }
+    }
+}
+
+impl fmt::Display for Size {
+    fn fmt(&self, out: &mut fmt::Formatter) -> fmt::Result {
+        write!(out, "{}×{}", self.events, self.relations)
     }
 }
 

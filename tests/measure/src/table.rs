@@ -1,6 +1,6 @@
 //! The tables that are printed: a row for each case, a column for each size.
 
-use measure::cases::{CASES, SIZES};
+use measure::cases::{CASES, GROWING, SIZES};
 use measure::sized::Size;
 
 pub struct Cost {
@@ -10,13 +10,6 @@ pub struct Cost {
     /// What of the proved side's is copying and clearing, where it is known.
     pub copying: Option<f64>,
     pub baseline: f64,
-}
-
-/// The sizes that are shown in full.
-const GROWING: [Size; 3] = [Size::of(4, 8), Size::of(16, 64), Size::of(64, 256)];
-
-fn name(size: Size) -> String {
-    format!("{}×{}", size.events, size.relations)
 }
 
 fn ratio(cost: &Cost) -> String {
@@ -32,16 +25,24 @@ fn whole(cost: &Cost) -> Vec<String> {
     cells
 }
 
+fn print_head(columns: &[String]) {
+    println!(
+        "\n| | {} |\n|---|{}",
+        columns.join(" | "),
+        "---:|".repeat(columns.len())
+    );
+}
+
+fn print_row(name: &str, cells: &[String]) {
+    println!("| {name} | {} |", cells.join(" | "));
+}
+
 fn table(sizes: &[Size], costs: &[Cost], columns: &[&str], cells: impl Fn(&Cost) -> Vec<String>) {
     let head: Vec<String> = sizes
         .iter()
-        .flat_map(|&size| columns.iter().map(move |column| name(size) + column))
+        .flat_map(|size| columns.iter().map(move |column| format!("{size}{column}")))
         .collect();
-    println!(
-        "\n| | {} |\n|---|{}",
-        head.join(" | "),
-        "---:|".repeat(head.len())
-    );
+    print_head(&head);
     for case in &CASES {
         let row: Vec<String> = sizes
             .iter()
@@ -52,7 +53,7 @@ fn table(sizes: &[Size], costs: &[Cost], columns: &[&str], cells: impl Fn(&Cost)
             })
             .flat_map(&cells)
             .collect();
-        println!("| {} | {} |", case.name, row.join(" | "));
+        print_row(case.name, &row);
     }
 }
 
@@ -67,4 +68,13 @@ pub fn print(unit: &str, costs: &[Cost]) {
     table(&GROWING, costs, columns, whole);
     println!("\n{unit}, ratio at each size");
     table(&SIZES, costs, &[""], |cost| vec![ratio(cost)]);
+}
+
+/// What the bench's program takes for an answer.
+pub fn print_through(rows: &[(String, Vec<u64>)]) {
+    print_head(&GROWING.map(|size| size.to_string()));
+    for (name, figures) in rows {
+        let cells: Vec<String> = figures.iter().map(u64::to_string).collect();
+        print_row(name, &cells);
+    }
 }
