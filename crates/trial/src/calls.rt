@@ -1,15 +1,18 @@
 // The public calls, by number: a call takes its arguments from the payload and puts its whole answer to `out`; the result is the answer's
-// length. A later call is one function and one line of `answer` in the file of its kind.
+// length. A later call that answers a few bytes or a marking is a line of `engine_calls`; another is a function, and a line here.
 use crate::engine_calls;
-use crate::image_calls;
 use crate::list_calls;
+use wire::answer;
+use wire::images;
 
 pub fn answer(call: u8, s: &[u8], out: &mut [u8]) -> usize {
-    if call < engine_calls::FIRST {
-        image_calls::answer(call, s, out)
-    } else if call < list_calls::FIRST {
-        engine_calls::answer(call, s, out)
-    } else {
-        list_calls::answer(call, s, out)
+    match call {
+        0..=6 => images::answer(call, s, out),
+        11..=13 => answer::put_marking_answer(out, engine_calls::moved(call, s)),
+        18 => answer::put_guarded_answer(out, engine_calls::guarded(s)),
+        19 => list_calls::remedies(s, out),
+        20 => list_calls::run(false, s, out),
+        21 => list_calls::run(true, s, out),
+        _ => answer::put_told(out, engine_calls::told(call, s)),
     }
 }

@@ -1,53 +1,38 @@
-// Calls 19 to 21: the engine's that are lent lists. Behind the table and the marking stands a list with its length before it, 2 bytes;
-// what is left of the payload is the other list.
-use crate::answer;
-use crate::answer::START;
-use crate::bytes;
-use crate::engine_calls;
-use crate::marking;
-use crate::table;
+// Calls 19 to 21: the engine's that are lent lists.
 use rules::Marking;
 use rules::MarkingAnswer;
 use rules::Step;
 use rules::Table;
+use wire::answer;
+use wire::given;
+use wire::told;
 ghost use mathlib.Core.Path.{_≡_};
 ghost use Prim.Native.Nat.{_≤_};
 ghost use lib.ListN.{length, take};
 ghost use Rattle.rules.specs.Trace.{run, runAnswers};
 
-pub const FIRST: u8 = 19;
-
-// Where the length stands.
-const LENGTH: usize = table::SIZE + marking::SIZE;
-
-fn first_list(s: &[u8]) -> &[u8] {
-    let n = bytes::length_at(s, LENGTH);
-    bytes::before(bytes::after(s, LENGTH + 2), n)
+// Whether a done call fell back: with nothing to fall back on, it refuses then.
+fn falls_back(number: u8, t: Table, m: Marking, preferred: &[u8]) -> bool {
+    if number != 0 {
+        return false;
+    }
+    let mut alone = 0u8;
+    engine::remedies(t, m, preferred, given::before(preferred, 0), &mut alone);
+    alone != 0
 }
 
-fn second_list(s: &[u8]) -> &[u8] {
-    let n = bytes::length_at(s, LENGTH);
-    bytes::after(bytes::after(s, LENGTH + 2), n)
-}
-
-// Whether no start of the preferred list discharges: with nothing to fall back on, the call then refuses.
-fn falls_back(t: Table, m: Marking, preferred: &[u8]) -> bool {
+pub fn remedies(s: &[u8], out: &mut [u8]) -> usize {
+    let t = given::table(s);
+    let m = given::marking_behind(s);
+    let preferred = given::first_list(s);
     let mut number = 0u8;
-    engine::remedies(t, m, preferred, bytes::before(preferred, 0), &mut number);
-    number != 0
-}
-
-fn remedies(s: &[u8], out: &mut [u8]) -> usize {
-    let t = engine_calls::table_of(s);
-    let m = engine_calls::marking_of(s);
-    let preferred = first_list(s);
-    let mut number = 0u8;
-    let stretch = engine::remedies(t, m, preferred, second_list(s), &mut number);
-    let fallback = number == 0 && falls_back(t, m, preferred);
-    bytes::put_byte(out, START, number);
-    bytes::put_bool(out, START + 1, fallback);
-    bytes::put_number(out, START + 2, stretch.len() as u64);
-    bytes::put_bytes(out, START + 10, stretch);
+    let stretch = engine::remedies(t, m, preferred, given::second_list(s), &mut number);
+    let fallback = falls_back(number, t, m, preferred);
+    answer::put_told(
+        out,
+        told::cased(number, fallback as u8, stretch.len() as u64, 8),
+    );
+    answer::put_bytes(out, 12, stretch);
     10 + stretch.len()
 }
 
@@ -68,8 +53,8 @@ fn steps_of(list: &[u8]) -> [Step; PLACES] {
     let mut i = 0;
     while i < PLACES {
         steps[i] = Step {
-            kind: bytes::byte_at(list, i * 2),
-            event: bytes::byte_at(list, i * 2 + 1),
+            kind: given::byte_at(list, i * 2),
+            event: given::byte_at(list, i * 2 + 1),
         };
         i += 1;
     }
@@ -99,27 +84,17 @@ fn ran(over_bytes: bool, t: Table, m: Marking, list: &[u8], answers: &mut [u8]) 
 }
 
 // The answer bytes' buffer is the part of `out` behind the number and the marking.
-fn run(over_bytes: bool, s: &[u8], out: &mut [u8]) -> usize {
-    let t = engine_calls::table_of(s);
-    let m = engine_calls::marking_of(s);
-    let buffer = second_list(s);
-    let start = START + 1 + marking::SIZE;
-    let end = start + buffer.len();
-    if out.len() < end {
-        return 0;
-    }
-    bytes::put_bytes(out, start, buffer);
-    let a = ran(over_bytes, t, m, first_list(s), &mut out[start..end]);
+pub fn run(over_bytes: bool, s: &[u8], out: &mut [u8]) -> usize {
+    let t = given::table(s);
+    let m = given::marking_behind(s);
+    let buffer = given::second_list(s);
+    let a = ran(
+        over_bytes,
+        t,
+        m,
+        given::first_list(s),
+        answer::lent(out, 779, buffer),
+    );
     answer::put_marking_answer(out, a);
-    end - START
-}
-
-// A number that no call has gets the empty answer.
-pub fn answer(call: u8, s: &[u8], out: &mut [u8]) -> usize {
-    match call {
-        19 => remedies(s, out),
-        20 => run(false, s, out),
-        21 => run(true, s, out),
-        _ => 0,
-    }
+    1 + given::MARKING + buffer.len()
 }

@@ -1,23 +1,12 @@
 // The bench on which every public call meets the second implementation: it reads calls from standard input and writes each call's
 // whole answer. A call is its number (1 byte), the payload's length (2 bytes, little-endian) and the payload; an answer is its length
 // (2 bytes) and its bytes.
-mod answer;
-mod bytes;
 mod calls;
 mod engine_calls;
-mod frame;
-mod image_calls;
 mod list_calls;
-mod marking;
-mod table;
 
-// The answer to the payload that is the first n bytes of `room`, put to `out`; its length is the result.
-fn answered(call: u8, n: usize, room: &[u8], out: &mut [u8]) -> usize {
-    if room.len() < n {
-        return 0;
-    }
-    calls::answer(call, &room[0..n], out)
-}
+use wire::frame;
+use wire::given;
 
 // One call; false at the end of the input.
 fn turn() -> bool {
@@ -30,7 +19,7 @@ fn turn() -> bool {
         return false;
     }
     let mut out = [0u8; 20000];
-    let n = answered(call.number, call.length, &room, &mut out);
+    let n = calls::answer(call.number, given::before(&room, call.length), &mut out);
     frame::send(n, &mut out)
 }
 

@@ -1,4 +1,4 @@
--- `trial::bytes::word_of` meets its contract: of a value below zero, -1 less it is not negative, and no larger than the value is below -1;
+-- `wire::told::word_of` meets its contract: of a value below zero, -1 less it is not negative, and no larger than the value is below -1;
 -- any other value is not negative. Assumes nothing.
 use mathlib.Core.Path.{_≡_, refl, sym, ap}
 use mathlib.Core.Bool.{true, false}
@@ -12,8 +12,8 @@ use mir.Facts.{toZ-pos, toZ-ofZ}
 use lib.IntN.{ℤ, pos, negsuc, _-ℤ_}
 use lib.Signed.{mag, ltZ}
 use Rattle.rules.specs.Laws.Tests.{clash}
-use Rattle.trial.proofs.bytes.word_of.Statement.{statement}
-use Rattle.trial.proofs.bytes.word_of.Tie as tie
+use Rattle.wire.proofs.told.word_of.Statement.{statement}
+use Rattle.wire.proofs.told.word_of.Tie as tie
 
 mirrored : (z : ℤ) → ltZ z (pos zero) ≡ true → negsuc zero -ℤ z ≡ pos (mag z)
 mirrored (pos n) e = absurd (clash e (le-ltb n 0 zero-le))

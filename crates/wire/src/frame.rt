@@ -30,7 +30,7 @@ pub fn payload(n: usize, room: &mut [u8]) -> bool {
 
 // Writes the answer of n bytes that stands in `out` from byte 2 on, behind its length.
 pub fn send(n: usize, out: &mut [u8]) -> bool {
-    bytes::put_length(out, 0, n);
+    bytes::put_number(out, 0, 2, n as u64);
     if out.len() < 2 {
         return false;
     }

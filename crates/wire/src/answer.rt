@@ -1,0 +1,66 @@
+// What a call answers. An answer stands in `out` from START on; what puts it there tells its length.
+use crate::bytes;
+use crate::given::MARKING;
+use crate::given::TABLE;
+use crate::told;
+use crate::told::Told;
+use crate::values;
+use rules::GuardedAnswer;
+use rules::MarkingAnswer;
+use rules::TableAnswer;
+
+// The answer's length goes before it.
+pub const START: usize = 2;
+
+pub fn put_told(out: &mut [u8], a: Told) -> usize {
+    let first = a.first_bytes as usize;
+    let second = a.second_bytes as usize;
+    bytes::put_number(out, START, first, a.first);
+    bytes::put_number(out, START + first, second, a.second);
+    first + second
+}
+
+pub fn put_bytes(out: &mut [u8], at: u16, s: &[u8]) {
+    let mut i = 0;
+    while i < s.len() {
+        bytes::put_byte(out, at as usize + i, s[i]);
+        i += 1;
+    }
+}
+
+// The part of `out` from a place on that is as long as a buffer, with the buffer's bytes: a call is lent it in the buffer's stead. It is
+// empty if `out` is too short.
+pub fn lent<'a>(out: &'a mut [u8], at: u16, buffer: &[u8]) -> &'a mut [u8] {
+    let start = at as usize;
+    let end = start + buffer.len();
+    put_bytes(out, at, buffer);
+    if out.len() < end {
+        return &mut out[0..0];
+    }
+    &mut out[start..end]
+}
+
+pub fn put_table_answer(out: &mut [u8], a: TableAnswer) -> usize {
+    let t = a.table;
+    bytes::put_byte(out, START, a.number);
+    values::put_table(out, START + 1, t);
+    1 + TABLE
+}
+
+pub fn put_marking_answer(out: &mut [u8], a: MarkingAnswer) -> usize {
+    let m = a.marking;
+    bytes::put_byte(out, START, a.number);
+    values::put_marking(out, START + 1, m);
+    1 + MARKING
+}
+
+// Behind number, reason and place stand the caused events, their count, and the marking.
+pub fn put_guarded_answer(out: &mut [u8], a: GuardedAnswer) -> usize {
+    let caused = a.caused;
+    let m = a.marking;
+    put_told(out, told::cased(a.number, a.reason, a.place as u64, 8));
+    put_bytes(out, 12, &caused);
+    bytes::put_number(out, 76, 8, a.count as u64);
+    values::put_marking(out, 84, m);
+    82 + MARKING
+}
