@@ -14,6 +14,7 @@ use Rattle.rules.specs.Image.{recordBytes, readMarking, markingImage}
 use Rattle.rules.specs.Trace.{mostSteps, traceNumber, stepsIn, endOf, answersOf}
 use Rattle.rules.specs.Station.{station}
 use Rattle.rules.specs.Laws.Station.{longestMarking, longest}
+pub use Rattle.duties.specs.Noted.{Told}
 
 -- the longest output: an answer byte for each step, and the end marking
 abbrev pub longestOutput : ℕ
