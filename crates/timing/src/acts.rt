@@ -1,125 +1,108 @@
 // Events and plain ticks. A call that moves on does so from its own answer, with event 0 set back.
 use crate::fold;
+use crate::start;
 
 #[no_mangle]
-pub extern "C" fn timing_enabled(table: &[u8], marking: &[u8], times: usize) -> u64 {
-    let t = image::read_table(table).table;
-    let mut m = image::read_marking(t.events, marking).marking;
-    let first = m.records[0];
+pub extern "C" fn timing_enabled(table: &[u8], marking: &[u8], mut times: usize) -> u64 {
+    let t = start::table(table);
+    let m = start::marking(t.events, marking);
     let mut sum = 1;
-    let mut i = 0;
-    while i < times {
-        i += 1;
-        m.records[0] = fold::stirred(first, sum);
-        let a = engine::enabled(t, m, fold::below(t.events, sum));
-        sum = fold::taken(sum, a.number as u64);
-        sum = fold::taken(sum, a.enabled as u64);
+    while times > 0 {
+        times -= 1;
+        let e = fold::below(t.events, sum);
+        let a = engine::enabled(t, start::stirred(m, sum), e);
+        sum = fold::enabled(sum, a);
     }
     sum
 }
 
 #[no_mangle]
-pub extern "C" fn timing_hold_up(table: &[u8], marking: &[u8], times: usize) -> u64 {
-    let t = image::read_table(table).table;
-    let mut m = image::read_marking(t.events, marking).marking;
-    let first = m.records[0];
+pub extern "C" fn timing_hold_up(table: &[u8], marking: &[u8], mut times: usize) -> u64 {
+    let t = start::table(table);
+    let m = start::marking(t.events, marking);
     let mut sum = 1;
-    let mut i = 0;
-    while i < times {
-        i += 1;
-        m.records[0] = fold::stirred(first, sum);
-        let a = engine::hold_up(t, m, fold::below(t.events, sum));
-        sum = fold::taken(sum, fold::hold_up_word(a));
+    while times > 0 {
+        times -= 1;
+        let e = fold::below(t.events, sum);
+        let a = engine::hold_up(t, start::stirred(m, sum), e);
+        sum = fold::hold_up(sum, a);
     }
     sum
 }
 
 #[no_mangle]
-pub extern "C" fn timing_margin(table: &[u8], marking: &[u8], times: usize) -> u64 {
-    let t = image::read_table(table).table;
-    let mut m = image::read_marking(t.events, marking).marking;
-    let first = m.records[0];
+pub extern "C" fn timing_margin(table: &[u8], marking: &[u8], mut times: usize) -> u64 {
+    let t = start::table(table);
+    let m = start::marking(t.events, marking);
     let mut sum = 1;
-    let mut i = 0;
-    while i < times {
-        i += 1;
-        m.records[0] = fold::stirred(first, sum);
-        let a = engine::margin(t, m, fold::below(t.count, sum));
-        sum = fold::taken(sum, fold::margin_word(a));
+    while times > 0 {
+        times -= 1;
+        let k = fold::below(t.count, sum);
+        let a = engine::margin(t, start::stirred(m, sum), k);
+        sum = fold::margin(sum, a);
     }
     sum
 }
 
 #[no_mangle]
-pub extern "C" fn timing_due(table: &[u8], marking: &[u8], times: usize) -> u64 {
-    let t = image::read_table(table).table;
-    let mut m = image::read_marking(t.events, marking).marking;
-    let first = m.records[0];
+pub extern "C" fn timing_due(table: &[u8], marking: &[u8], mut times: usize) -> u64 {
+    let t = start::table(table);
+    let m = start::marking(t.events, marking);
     let mut sum = 1;
-    let mut i = 0;
-    while i < times {
-        i += 1;
-        m.records[0] = fold::stirred(first, sum);
-        let a = engine::due(t, m);
-        sum = fold::taken(sum, a.number as u64);
-        sum = fold::taken(sum, a.set);
+    while times > 0 {
+        times -= 1;
+        sum = fold::set(sum, engine::due(t, start::stirred(m, sum)));
     }
     sum
 }
 
 #[no_mangle]
-pub extern "C" fn timing_request(table: &[u8], marking: &[u8], times: usize) -> u64 {
-    let t = image::read_table(table).table;
-    let mut m = image::read_marking(t.events, marking).marking;
-    let first = m.records[0];
+pub extern "C" fn timing_request(table: &[u8], marking: &[u8], mut times: usize) -> u64 {
+    let t = start::table(table);
+    let mut m = start::marking(t.events, marking);
+    let first = start::first(m);
     let mut sum = 1;
-    let mut i = 0;
-    while i < times {
-        i += 1;
-        m.records[0] = fold::stirred(first, sum);
-        let a = engine::request(t, m, fold::below(t.events, sum));
+    while times > 0 {
+        times -= 1;
+        let e = fold::below(t.events, sum);
+        let a = engine::request(t, start::set_back(m, first, sum), e);
+        sum = fold::marking(sum, a);
         m = a.marking;
-        let r = m.records[1];
-        sum = fold::taken(sum, a.number as u64);
-        sum = fold::taken(sum, fold::record_word(r));
     }
     sum
 }
 
 #[no_mangle]
-pub extern "C" fn timing_report(table: &[u8], marking: &[u8], last: usize, times: usize) -> u64 {
-    let t = image::read_table(table).table;
-    let mut m = image::read_marking(t.events, marking).marking;
-    let first = m.records[0];
+pub extern "C" fn timing_report(
+    table: &[u8],
+    marking: &[u8],
+    last: usize,
+    mut times: usize,
+) -> u64 {
+    let t = start::table(table);
+    let mut m = start::marking(t.events, marking);
+    let first = start::first(m);
     let mut sum = 1;
-    let mut i = 0;
-    while i < times {
-        i += 1;
-        m.records[0] = fold::stirred(first, sum);
-        let a = engine::report(t, m, last);
+    while times > 0 {
+        times -= 1;
+        let a = engine::report(t, start::set_back(m, first, sum), last);
+        sum = fold::marking(sum, a);
         m = a.marking;
-        let r = m.records[1];
-        sum = fold::taken(sum, a.number as u64);
-        sum = fold::taken(sum, fold::record_word(r));
     }
     sum
 }
 
 #[no_mangle]
-pub extern "C" fn timing_plain_tick(table: &[u8], marking: &[u8], times: usize) -> u64 {
-    let t = image::read_table(table).table;
-    let mut m = image::read_marking(t.events, marking).marking;
-    let first = m.records[0];
+pub extern "C" fn timing_plain_tick(table: &[u8], marking: &[u8], mut times: usize) -> u64 {
+    let t = start::table(table);
+    let mut m = start::marking(t.events, marking);
+    let first = start::first(m);
     let mut sum = 1;
-    let mut i = 0;
-    while i < times {
-        i += 1;
-        m.records[0] = fold::stirred(first, sum);
-        let a = engine::plain_tick(t, m);
+    while times > 0 {
+        times -= 1;
+        let a = engine::plain_tick(t, start::set_back(m, first, sum));
+        sum = fold::marking(sum, a);
         m = a.marking;
-        let r = m.records[1];
-        sum = fold::taken(sum, a.number as u64);
-        sum = fold::taken(sum, fold::record_word(r));
     }
     sum
 }

@@ -1,10 +1,16 @@
 // What keeps a loop of calls from being worked out beforehand: each call is handed something that the answers before it decide, and of each
 // answer a part that they decide is taken into the sum.
 use rules::CheckAnswer;
+use rules::EnabledAnswer;
+use rules::GuardedAnswer;
 use rules::HoldUpAnswer;
 use rules::MarginAnswer;
+use rules::Marking;
+use rules::MarkingAnswer;
 use rules::Record;
 use rules::Relation;
+use rules::SetAnswer;
+use rules::TableAnswer;
 
 // The sum with one number more.
 pub fn taken(sum: u64, x: u64) -> u64 {
@@ -19,55 +25,84 @@ pub fn below(n: usize, sum: u64) -> usize {
     (sum % 65_536) as usize % n
 }
 
-// The record of event 0, at an age that the sum decides.
-pub fn stirred(r: Record, sum: u64) -> Record {
-    let mut next = r;
-    next.age = (sum % 1024) as u32;
-    next
+pub fn number(sum: u64, n: u8) -> u64 {
+    taken(sum, n as u64)
 }
 
-// A condition, with a time that the sum decides.
-pub fn timed(k: Relation, sum: u64) -> Relation {
-    let mut next = k;
-    next.time = (sum % 1024) as u32;
-    next
+pub fn enabled(sum: u64, a: EnabledAnswer) -> u64 {
+    taken(taken(sum, a.number as u64), a.enabled as u64)
 }
 
-pub fn record_word(r: Record) -> u64 {
+pub fn set(sum: u64, a: SetAnswer) -> u64 {
+    taken(taken(sum, a.number as u64), a.set)
+}
+
+fn record_word(r: Record) -> u64 {
     let times = taken(r.age as u64, r.deadline as u64);
     let past = taken(r.happened as u64, r.included as u64);
     let duty = taken(r.pending as u64, r.bounded as u64);
     taken(times, taken(past, duty))
 }
 
-pub fn relation_word(k: Relation) -> u64 {
+// What a record shows of a marking.
+fn marking_word(m: Marking) -> u64 {
+    let r = m.records[1];
+    record_word(r)
+}
+
+pub fn marking(sum: u64, a: MarkingAnswer) -> u64 {
+    let m = a.marking;
+    taken(taken(sum, a.number as u64), marking_word(m))
+}
+
+pub fn guarded(sum: u64, a: GuardedAnswer) -> u64 {
+    let m = a.marking;
+    taken(
+        taken(taken(sum, a.number as u64), a.count as u64),
+        marking_word(m),
+    )
+}
+
+fn relation_word(k: Relation) -> u64 {
     let ends = taken(k.left as u64, k.right as u64);
     taken(taken(k.kind as u64, k.time as u64), ends)
 }
 
-pub fn margin_word(a: MarginAnswer) -> u64 {
-    match a {
+pub fn table(sum: u64, a: TableAnswer) -> u64 {
+    let t = a.table;
+    let k = t.relations[1];
+    taken(
+        taken(taken(sum, a.number as u64), t.controllable),
+        relation_word(k),
+    )
+}
+
+pub fn margin(sum: u64, a: MarginAnswer) -> u64 {
+    let word = match a {
         MarginAnswer::Refused(number) => number as u64,
         MarginAnswer::NotACondition => 16,
         MarginAnswer::Ignored => 17,
         MarginAnswer::Never => 18,
         MarginAnswer::By(ticks) => if ticks < 0 { 19 } else { 20 },
-    }
+    };
+    taken(sum, word)
 }
 
-pub fn hold_up_word(a: HoldUpAnswer) -> u64 {
-    match a {
+pub fn hold_up(sum: u64, a: HoldUpAnswer) -> u64 {
+    let word = match a {
         HoldUpAnswer::Refused(number) => number as u64,
         HoldUpAnswer::Enabled => 16,
         HoldUpAnswer::Excluded => 17,
         HoldUpAnswer::Blocked(relation) => taken(18, relation as u64),
-    }
+    };
+    taken(sum, word)
 }
 
-pub fn check_word(a: CheckAnswer) -> u64 {
-    match a {
+pub fn check(sum: u64, a: CheckAnswer) -> u64 {
+    let word = match a {
         CheckAnswer::Refused(number) => number as u64,
         CheckAnswer::Accepts => 16,
         CheckAnswer::Rejects(reason, place) => taken(17 + reason as u64, place as u64),
-    }
+    };
+    taken(sum, word)
 }

@@ -6,3 +6,4 @@ mod fold;
 mod images;
 mod lists;
 mod sets;
+mod start;

@@ -1,5 +1,6 @@
 // The calls that are lent lists: remedies, the runner over bytes, the station.
 use crate::fold;
+use crate::start;
 
 #[no_mangle]
 pub extern "C" fn timing_remedies<'a>(
@@ -7,20 +8,16 @@ pub extern "C" fn timing_remedies<'a>(
     marking: &[u8],
     preferred: &'a [u8],
     fallback: &'a [u8],
-    times: usize,
+    mut times: usize,
 ) -> u64 {
-    let t = image::read_table(table).table;
-    let mut m = image::read_marking(t.events, marking).marking;
-    let first = m.records[0];
+    let t = start::table(table);
+    let m = start::marking(t.events, marking);
     let mut sum = 1;
-    let mut i = 0;
-    while i < times {
-        i += 1;
-        m.records[0] = fold::stirred(first, sum);
+    while times > 0 {
+        times -= 1;
         let mut number = 0u8;
-        let stretch = engine::remedies(t, m, preferred, fallback, &mut number);
-        sum = fold::taken(sum, number as u64);
-        sum = fold::taken(sum, stretch.len() as u64);
+        let stretch = engine::remedies(t, start::stirred(m, sum), preferred, fallback, &mut number);
+        sum = fold::taken(fold::taken(sum, number as u64), stretch.len() as u64);
     }
     sum
 }
@@ -31,33 +28,23 @@ pub extern "C" fn timing_run_bytes(
     marking: &[u8],
     steps: &[u8],
     answers: &mut [u8],
-    times: usize,
+    mut times: usize,
 ) -> u64 {
-    let t = image::read_table(table).table;
-    let mut m = image::read_marking(t.events, marking).marking;
-    let first = m.records[0];
+    let t = start::table(table);
+    let m = start::marking(t.events, marking);
     let mut sum = 1;
-    let mut i = 0;
-    while i < times {
-        i += 1;
-        m.records[0] = fold::stirred(first, sum);
-        let a = engine::run_bytes(t, m, steps, answers);
-        let after = a.marking;
-        let r = after.records[1];
-        sum = fold::taken(sum, a.number as u64);
-        sum = fold::taken(sum, fold::record_word(r));
+    while times > 0 {
+        times -= 1;
+        sum = fold::marking(
+            sum,
+            engine::run_bytes(t, start::stirred(m, sum), steps, answers),
+        );
     }
     sum
 }
 
+// Once: its costs are those of a run, and only its stack is measured.
 #[no_mangle]
-pub extern "C" fn timing_station(input: &[u8], output: &mut [u8], times: usize) -> u64 {
-    let mut sum = 1;
-    let mut i = 0;
-    while i < times {
-        i += 1;
-        let n = engine::station(input, 0, output);
-        sum = fold::taken(sum, n as u64);
-    }
-    sum
+pub extern "C" fn timing_station(input: &[u8], output: &mut [u8]) -> usize {
+    engine::station(input, 0, output)
 }

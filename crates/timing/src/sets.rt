@@ -1,24 +1,10 @@
-// Event sets.
-use crate::fold;
-
+// Event sets, once: a few instructions, and only their stack is measured.
 #[no_mangle]
-pub extern "C" fn timing_size(times: usize) -> u64 {
-    let mut sum = 1;
-    let mut i = 0;
-    while i < times {
-        i += 1;
-        sum = fold::taken(sum, engine::size(sum) as u64);
-    }
-    sum
+pub extern "C" fn timing_size(set: u64) -> u32 {
+    engine::size(set)
 }
 
 #[no_mangle]
-pub extern "C" fn timing_lowest(times: usize) -> u64 {
-    let mut sum = 1;
-    let mut i = 0;
-    while i < times {
-        i += 1;
-        sum = fold::taken(sum, engine::lowest(sum) as u64);
-    }
-    sum
+pub extern "C" fn timing_lowest(set: u64) -> u32 {
+    engine::lowest(set)
 }

@@ -34,12 +34,12 @@ extern "C" {
     fn timing_plain_tick(t: *const u8, tn: usize, m: *const u8, mn: usize, times: usize) -> u64;
     fn timing_closure(t: *const u8, tn: usize, m: *const u8, mn: usize, times: usize) -> u64;
     fn timing_check(t: *const u8, tn: usize, m: *const u8, mn: usize, times: usize) -> u64;
-    fn timing_guarded_tick(t: *const u8, tn: usize, m: *const u8, mn: usize, times: usize) -> u64;
-    fn timing_guarded_tick_again(
+    fn timing_guarded_tick(
         t: *const u8,
         tn: usize,
         m: *const u8,
         mn: usize,
+        on: bool,
         times: usize,
     ) -> u64;
     fn timing_remedies(
@@ -86,8 +86,6 @@ impl Calls for Proved {
     of_pair!(plain_tick, timing_plain_tick);
     of_pair!(closure, timing_closure);
     of_pair!(check, timing_check);
-    of_pair!(guarded_tick, timing_guarded_tick);
-    of_pair!(guarded_tick_again, timing_guarded_tick_again);
 
     fn read_table(&self, i: &mut [u8], times: usize) -> u64 {
         unsafe { timing_read_table(i.as_mut_ptr(), i.len(), times) }
@@ -116,6 +114,14 @@ impl Calls for Proved {
 
     fn report(&self, t: &[u8], m: &[u8], last: usize, times: usize) -> u64 {
         unsafe { timing_report(t.as_ptr(), t.len(), m.as_ptr(), m.len(), last, times) }
+    }
+
+    fn guarded_tick(&self, t: &[u8], m: &[u8], times: usize) -> u64 {
+        unsafe { timing_guarded_tick(t.as_ptr(), t.len(), m.as_ptr(), m.len(), true, times) }
+    }
+
+    fn guarded_tick_again(&self, t: &[u8], m: &[u8], times: usize) -> u64 {
+        unsafe { timing_guarded_tick(t.as_ptr(), t.len(), m.as_ptr(), m.len(), false, times) }
     }
 
     fn remedies(&self, t: &[u8], m: &[u8], p: &[u8], f: &[u8], times: usize) -> u64 {
