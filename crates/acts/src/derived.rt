@@ -11,12 +11,8 @@ ghost use lib.ListN.{length, replicate};
 ghost use Rattle.rules.specs.Laws.Judge.{GoodTable, GoodRelation};
 ghost use Rattle.acts.specs.Derived.{sortOf, chainOf, linkOf, linksNoted, rowsNoted, headOf, Own, Derived, Linked};
 
-// How many words a row has, all rows have, and all links have.
+// How many words a row has.
 pub const WIDTH: usize = 10;
-
-pub const ROWS: usize = 640;
-
-pub const LINKS: usize = 256;
 
 pub const CONDITION: usize = 0;
 

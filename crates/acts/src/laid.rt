@@ -31,9 +31,6 @@ pub const DEADLINES: usize = 64;
 // 64 places for each column.
 pub type Columns = [u32; 128];
 
-// A clock may go so far: 2^31 ticks.
-pub const LAST_TICK: u32 = 2_147_483_648;
-
 // The set, with the event if so.
 fn with_if(set: u64, so: bool, e: usize) -> u64
     requires { ⌜ e < 64 ⌝ }

@@ -8,8 +8,8 @@ use Rattle.rules.specs.declared.Table.{Table}
 use Rattle.rules.specs.declared.Marking.{Marking}
 use Rattle.rules.specs.declared.GuardedAnswer.{GuardedAnswer}
 use Rattle.rules.specs.EventSet.{has}
-use Rattle.rules.specs.Holds.{recordOf}
 use Rattle.rules.specs.Effect.{effect}
+use Rattle.rules.specs.Guard.{goesAhead}
 use Rattle.duties.specs.Inhibition.{inhibitorsIn}
 
 -- an answer with the events that were executed, places past them 0
@@ -39,7 +39,7 @@ noted t s e = record {
 }
 
 unfoldable pub takenOne : Table → GuardedAnswer → ℕ → GuardedAnswer
-takenOne t s e = cond (recordOf (s .marking) e .included) (noted t s e) s
+takenOne t s e = cond (goesAhead t (s .marking) e) (noted t s e) s
 
 unfoldable pub carriedOn : Table → GuardedAnswer → List ℕ → GuardedAnswer
 carriedOn t s [] = s

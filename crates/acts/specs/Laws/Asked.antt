@@ -11,7 +11,7 @@ use Rattle.rules.specs.Numbers.{_if_, _else_}
 use Rattle.rules.specs.Holds.{isControllable}
 use Rattle.rules.specs.Judge.{eventNumber}
 use Rattle.rules.specs.Enabled.{isEnabled}
-use Rattle.rules.specs.Laws.Ask.{askNumber, other}
+use Rattle.rules.specs.Laws.Ask.{askNumber, other, other-same}
 use Rattle.rules.specs.Laws.Numbers.{else-done, else-refused}
 use Rattle.acts.specs.declared.derived.Head.{Head}
 use Rattle.acts.specs.Derived.{headOf}
@@ -29,13 +29,7 @@ head-exists head e t is b = omega (arith, same-events head t is)
 
 module _ (wanted : Bool) (head : Head) (e : ℕ) (t : Table) (is : head ≡ headOf t) where
   of-class : {b : Bool} → Bool·beq (has (head .controllable) e) wanted ≡ b → other wanted t e ≡ not b
-  of-class h = go (isControllable t e) wanted ∙ ap not (ap (λ (k : Head). Bool·beq (has (k .controllable) e) wanted) (sym is) ∙ h)
-    where
-      go : (controllable wanted : Bool) → cond wanted (not controllable) controllable ≡ not (Bool·beq controllable wanted)
-      go true true = refl
-      go true false = refl
-      go false true = refl
-      go false false = refl
+  of-class h = other-same (isControllable t e) wanted ∙ ap not (ap (λ (k : Head). Bool·beq (has (k .controllable) e) wanted) (sym is) ∙ h)
 
   pub class-done : e < head .events → Bool·beq (has (head .controllable) e) wanted ≡ true → 0 ≡ classNumber wanted t e
   class-done b h = rw (lt-ltb e (t .events) (head-exists head e t is b), of-class h)

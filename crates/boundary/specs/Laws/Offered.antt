@@ -14,11 +14,11 @@ use Rattle.rules.specs.declared.Table.{Table}
 use Rattle.rules.specs.declared.Marking.{Marking}
 use Rattle.rules.specs.Judge.{judged}
 use Rattle.rules.specs.Time.{anyDue}
-use Rattle.rules.specs.Remedy.{shortest, remedy, stretch}
+use Rattle.rules.specs.Remedy.{longestList, shortest, remedy, stretch}
 use Rattle.rules.specs.Laws.Tests.{decide}
 use Rattle.rules.specs.Laws.Remedy.{shortest-empty, shortest-none, shortest-le, remedy-first, remedy-none}
 
-module _ (t : Table) (m : Marking) (list : List ℕ) (h : judged t m ≡ 0) (short : length list ≤ 255) where
+module _ (t : Table) (m : Marking) (list : List ℕ) (h : judged t m ≡ 0) (short : length list ≤ longestList) where
   -- a list without a start is refused
   none : length list < shortest t m list → remedy t m list [] .number ≡ 13
   none g = ⊎-elim due idle (decide (anyDue m))

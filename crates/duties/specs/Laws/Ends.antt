@@ -22,7 +22,8 @@ use Rattle.acts.specs.Derived.{sortOf, rowOf, sorted, Derived}
 use Rattle.duties.specs.Inhibition.{ledTo}
 use Rattle.duties.specs.Reasons.{Led, Ends}
 use Rattle.acts.specs.Laws.Derived.{left-small}
-use Rattle.duties.specs.Laws.Followed.{some-either, some-besides}
+use Rattle.acts.specs.Laws.Sorted.{some-either}
+use Rattle.duties.specs.Laws.Followed.{some-besides}
 use Rattle.acts.specs.Laws.Each.{some-member}
 
 -- a relation of a sort, from a set

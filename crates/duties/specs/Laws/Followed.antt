@@ -34,7 +34,7 @@ use Rattle.acts.specs.Derived.{sortOf, rowOf, sorted, Derived, everyEvent}
 use Rattle.duties.specs.Inhibition.{inhibitorsIn, Reached, readyIn}
 use Rattle.acts.specs.Laws.Members.{set-by-test, has-every}
 use Rattle.duties.specs.Laws.Sets.{isMissing, isWaiting}
-use Rattle.acts.specs.Laws.Sorts.{sorts}
+use Rattle.acts.specs.Laws.Sorted.{some-either, conditions-are, milestones-are}
 use Rattle.acts.specs.Laws.Derived.{left-small, right-small}
 
 -- a relation leads on to its right event: a condition to one of the first set, a milestone to one of the second
@@ -45,19 +45,7 @@ leadsOn conditions milestones k = isCondition k && has conditions (k .right) || 
 abbrev leadsFrom : Table → ℕ → ℕ → ℕ → ℕ → ℕ → Bool
 leadsFrom t conditions milestones e x k = leadsOn conditions milestones (relationOf t k) && leads (relationOf t k) e x
 
--- some place for either of two tests; some place, and a test besides
-pub some-either : (f g : ℕ → Bool) (n : ℕ) → (some n f || some n g) ≡ some n (λ k. f k || g k)
-unfolding some
-some-either f g zero = refl
-some-either f g (suc n) = go (some n f) (f n) (some n g) (g n) (some-either f g n)
-  where
-    go : (a b c d : Bool) {e : Bool} → (a || c) ≡ e → ((a || b) || (c || d)) ≡ (e || (b || d))
-    go true b c d h = rw (sym h)
-    go false true true d h = rw (sym h)
-    go false true false d h = rw (sym h)
-    go false false true d h = rw (sym h)
-    go false false false d h = rw (sym h)
-
+-- some place, and a test besides
 pub some-besides : (f : ℕ → Bool) (b : Bool) (n : ℕ) → (some n f && b) ≡ some n (λ k. f k && b)
 unfolding some
 some-besides f b zero = refl
@@ -74,21 +62,10 @@ module _ (t : Table) (good : GoodTable t) (rows : List ℕ) (made : Derived t (t
   module _ (e : ℕ) (small : e < 64) (x : ℕ) where
     waits-for : has (bitOr (rowOf rows e 0) (rowOf rows e 1)) x ≡ some (t .count) (λ k. isCondition (relationOf t k) && leads (relationOf t k) e x)
     waits-for =
-        has-or (rowOf rows e 0) (rowOf rows e 1) x ∙ ap₂ _||_ (made .row e small 0 (omega arith) x) (made .row e small 1 (omega arith) x)
-        ∙ some-either (sorted t 0 e x) (sorted t 1 e x) (t .count)
-        ∙ some-same _ _ (t .count)
-        (λ k b. split (eqb (sortOf (relationOf t k)) 0) (eqb (sortOf (relationOf t k)) 1) (leads (relationOf t k) e x)
-        (sorts (relationOf t k) (good .relations-good k b) .conditions))
-      where
-        split : (a b d : Bool) {c : Bool} → (a || b) ≡ c → (a && d || b && d) ≡ (c && d)
-        split true b true h = rw (sym h)
-        split true b false h = rw (sym h) (and-false b)
-        split false b d h = rw (sym h)
+        has-or (rowOf rows e 0) (rowOf rows e 1) x ∙ ap₂ _||_ (made .row e small 0 (omega arith) x) (made .row e small 1 (omega arith) x) ∙ conditions-are t e x good
 
     awaits : has (rowOf rows e 2) x ≡ some (t .count) (λ k. isMilestone (relationOf t k) && leads (relationOf t k) e x)
-    awaits =
-        made .row e small 2 (omega arith) x
-        ∙ some-same _ _ (t .count) (λ k b. ap (λ (a : Bool). a && leads (relationOf t k) e x) (sorts (relationOf t k) (good .relations-good k b) .milestones))
+    awaits = made .row e small 2 (omega arith) x ∙ milestones-are t e x good
 
     -- its inhibitors, by the relations
     pub has-inhibitors : (conditions milestones : ℕ) → has (inhibitorsIn rows conditions milestones e) x ≡ some (t .count) (leadsFrom t conditions milestones e x)

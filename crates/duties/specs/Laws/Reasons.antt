@@ -33,7 +33,8 @@ use Rattle.acts.specs.Laws.Members.{set-by-test, lowest-found}
 use Rattle.acts.specs.Laws.Derived.{right-small}
 use Rattle.duties.specs.Laws.Sets.{isOwed}
 use Rattle.acts.specs.Laws.Sorts.{Sorts, sorts}
-use Rattle.duties.specs.Laws.Followed.{some-either, inhibitors-follow}
+use Rattle.acts.specs.Laws.Sorted.{some-either}
+use Rattle.duties.specs.Laws.Followed.{inhibitors-follow}
 use Rattle.acts.specs.Laws.Each.{some-member}
 use Rattle.duties.specs.Laws.Ends.{ends-same, ends-or, ends-and, ends-none, ends-exist, ends-some, from, led-ends, led-every}
 

@@ -36,29 +36,12 @@ pub asked-report : (t : Table) (m : Marking) (e : ℕ) → asked false t m e ≡
 unfolding asked askNumber report reportNumber
 asked-report t m e = refl
 
-other-same : (controllable wanted : Bool) → cond wanted (not controllable) controllable ≡ not (Bool·beq controllable wanted)
+-- the class that is wanted, as a test of two
+pub other-same : (controllable wanted : Bool) → cond wanted (not controllable) controllable ≡ not (Bool·beq controllable wanted)
 other-same true true = refl
 other-same true false = refl
 other-same false true = refl
 other-same false false = refl
-
--- of a judged table and marking: the event's number comes first, then the class, then whether the event is enabled
-module _ (wanted : Bool) (t : Table) (m : Marking) (e : ℕ) where
-  pub ask-granted : e < t .events → Bool·beq (isControllable t e) wanted ≡ true → isEnabled t m e ≡ true → 0 ≡ askNumber wanted t m e
-  unfolding askNumber
-  ask-granted b k f = rw (lt-ltb e (t .events) b, other-same (isControllable t e) wanted, k, f)
-
-  pub ask-held : e < t .events → Bool·beq (isControllable t e) wanted ≡ true → isEnabled t m e ≡ false → 10 ≡ askNumber wanted t m e
-  unfolding askNumber
-  ask-held b k f = rw (lt-ltb e (t .events) b, other-same (isControllable t e) wanted, k, f)
-
-  pub ask-other : e < t .events → Bool·beq (isControllable t e) wanted ≡ false → 9 ≡ askNumber wanted t m e
-  unfolding askNumber
-  ask-other b k = rw (lt-ltb e (t .events) b, other-same (isControllable t e) wanted, k)
-
-  pub ask-missing : t .events ≤ e → 8 ≡ askNumber wanted t m e
-  unfolding askNumber
-  ask-missing b = rw (le-ltb e (t .events) b)
 
 -- what is granted was enabled
 pub asked-granted : (wanted : Bool) (t : Table) (m : Marking) (e : ℕ) → asked wanted t m e .number ≡ 0 → isEnabled t m e ≡ true
