@@ -32,7 +32,7 @@ pub fn remedies(s: &[u8], out: &mut [u8]) -> usize {
         out,
         told::cased(number, fallback as u8, stretch.len() as u64, 8),
     );
-    answer::put_bytes(out, 12, stretch);
+    answer::put_bytes(out, 10, stretch);
     10 + stretch.len()
 }
 
@@ -83,6 +83,9 @@ fn ran(over_bytes: bool, t: Table, m: Marking, list: &[u8], answers: &mut [u8]) 
     run_steps(steps_of(list), placed(list.len() / 2), t, m, answers)
 }
 
+// A number and a marking.
+const MARKED: u16 = 1 + given::MARKING;
+
 // The answer bytes' buffer is the part of `out` behind the number and the marking.
 pub fn run(over_bytes: bool, s: &[u8], out: &mut [u8]) -> usize {
     let t = given::table(s);
@@ -93,8 +96,8 @@ pub fn run(over_bytes: bool, s: &[u8], out: &mut [u8]) -> usize {
         t,
         m,
         given::first_list(s),
-        answer::lent(out, 779, buffer),
+        answer::lent(out, MARKED, buffer),
     );
     answer::put_marking_answer(out, a);
-    1 + given::MARKING + buffer.len()
+    MARKED as usize + buffer.len()
 }

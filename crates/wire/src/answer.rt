@@ -10,7 +10,7 @@ use rules::MarkingAnswer;
 use rules::TableAnswer;
 
 // The answer's length goes before it.
-pub const START: usize = 2;
+const START: usize = 2;
 
 pub fn put_told(out: &mut [u8], a: Told) -> usize {
     let first = a.first_bytes as usize;
@@ -20,20 +20,20 @@ pub fn put_told(out: &mut [u8], a: Told) -> usize {
     first + second
 }
 
-pub fn put_bytes(out: &mut [u8], at: u16, s: &[u8]) {
+// Behind so many bytes of the answer.
+pub fn put_bytes(out: &mut [u8], behind: u16, s: &[u8]) {
     let mut i = 0;
     while i < s.len() {
-        bytes::put_byte(out, at as usize + i, s[i]);
+        bytes::put_byte(out, START + behind as usize + i, s[i]);
         i += 1;
     }
 }
 
-// The part of `out` from a place on that is as long as a buffer, with the buffer's bytes: a call is lent it in the buffer's stead. It is
-// empty if `out` is too short.
-pub fn lent<'a>(out: &'a mut [u8], at: u16, buffer: &[u8]) -> &'a mut [u8] {
-    let start = at as usize;
+// A buffer's bytes, behind so many of the answer: a call is lent this part of `out` in the buffer's stead. It is empty if `out` is too short.
+pub fn lent<'a>(out: &'a mut [u8], behind: u16, buffer: &[u8]) -> &'a mut [u8] {
+    let start = START + behind as usize;
     let end = start + buffer.len();
-    put_bytes(out, at, buffer);
+    put_bytes(out, behind, buffer);
     if out.len() < end {
         return &mut out[0..0];
     }
@@ -44,23 +44,23 @@ pub fn put_table_answer(out: &mut [u8], a: TableAnswer) -> usize {
     let t = a.table;
     bytes::put_byte(out, START, a.number);
     values::put_table(out, START + 1, t);
-    1 + TABLE
+    1 + TABLE as usize
 }
 
 pub fn put_marking_answer(out: &mut [u8], a: MarkingAnswer) -> usize {
     let m = a.marking;
     bytes::put_byte(out, START, a.number);
     values::put_marking(out, START + 1, m);
-    1 + MARKING
+    1 + MARKING as usize
 }
 
-// Behind number, reason and place stand the caused events, their count, and the marking.
+// Number, reason and place, 10 bytes; the caused events, 64; their count, 8; the marking.
 pub fn put_guarded_answer(out: &mut [u8], a: GuardedAnswer) -> usize {
     let caused = a.caused;
     let m = a.marking;
     put_told(out, told::cased(a.number, a.reason, a.place as u64, 8));
-    put_bytes(out, 12, &caused);
-    bytes::put_number(out, 76, 8, a.count as u64);
-    values::put_marking(out, 84, m);
-    82 + MARKING
+    put_bytes(out, 10, &caused);
+    bytes::put_number(out, START + 74, 8, a.count as u64);
+    values::put_marking(out, START + 82, m);
+    82 + MARKING as usize
 }

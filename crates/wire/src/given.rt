@@ -9,9 +9,9 @@ use rules::Table;
 ghost use Prim.Native.Nat.{_+_, _≤_};
 
 // The bytes of a table, and of a marking.
-pub const TABLE: usize = 2080;
+pub const TABLE: u16 = 2080;
 
-pub const MARKING: usize = 776;
+pub const MARKING: u16 = 776;
 
 // What is left from a place on.
 pub fn after(s: &[u8], at: usize) -> &[u8] {
@@ -109,12 +109,12 @@ pub fn marking(s: &[u8]) -> Marking {
 
 // The marking behind a table.
 pub fn marking_behind(s: &[u8]) -> Marking {
-    marking(after(s, TABLE))
+    marking(after(s, TABLE as usize))
 }
 
 // What stands behind a table and a marking.
 fn behind(s: &[u8]) -> &[u8] {
-    after(s, TABLE + MARKING)
+    after(s, (TABLE + MARKING) as usize)
 }
 
 // The event or relation asked about.

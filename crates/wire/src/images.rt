@@ -11,8 +11,8 @@ fn events(s: &[u8]) -> usize {
 
 // The buffer is the part of `out` behind the number.
 fn write_marking(s: &[u8], out: &mut [u8]) -> usize {
-    let buffer = given::after(s, given::MARKING);
-    let number = image::write_marking(given::marking(s), answer::lent(out, 3, buffer));
+    let buffer = given::after(s, given::MARKING as usize);
+    let number = image::write_marking(given::marking(s), answer::lent(out, 1, buffer));
     answer::put_told(out, told::number(number));
     1 + buffer.len()
 }
