@@ -1,5 +1,5 @@
 /*
- * The shop example P of document 01, from C: a leak asks for a flush within three minutes, the flush waits for the isolating valve, and when
+ * The shop example P of docs/RULES.md, from C: a leak asks for a flush within three minutes, the flush waits for the isolating valve, and when
  * the duty is due the engine itself isolates, drains and flushes.
  */
 #include "duty.h"

@@ -1,4 +1,4 @@
-/* Document 01's process P as images, for the example and the tests. Events: 0 leak, 1 flush, 2 isolate, 3 standby, 4 drain. */
+/* The process P of docs/RULES.md as images, for the example and the tests. Events: 0 leak, 1 flush, 2 isolate, 3 standby, 4 drain. */
 #ifndef SHOP_H
 #define SHOP_H
 

@@ -1,18 +1,37 @@
 /*
  * The duty engine for C.
  *
- * Each function is proved, in the crate `boundary`, to do what is said here for any bytes and numbers that keep the rules below; the exact
- * promise stands on the function itself in crates/boundary/src/lib.rt. `rt staticlib boundary` writes target/staticlib/libboundary.a, for
- * x86-64; of the C library it uses memcpy and memset alone.
+ * Each function is proved, in the crate `duty`, to do what is said here for any bytes and numbers that keep the rules below; the exact promise
+ * stands on the function itself in crates/duty/src/lib.rt. What the words mean (enabled, due, the check, a guarded tick ..) stands in
+ * docs/RULES.md. `rt staticlib duty` writes target/staticlib/libduty.a, for x86-64; of the C library it uses memcpy and memset alone.
  *
  * What C must keep. Nothing can test it within the call, and the proof assumes it:
- *   - a pointer is not null and points to as many bytes as its length says, also where the length is 0;
- *   - those bytes, and what an out-parameter points to, have been written before, with anything;
- *   - a length is below 2^63;
+ *   - a pointer is not null, is aligned as its type asks, and points to as many places as its length says, also where the length is 0;
+ *   - those places, and what an out-parameter points to, have been written before, with anything;
+ *   - what a length says is below 2^63 bytes;
  *   - nothing that a call may write (a parameter without const) overlaps anything else that it is handed. What is only read may overlap;
  *   - no other thread or interrupt touches what is lent while a call runs. There is no state between calls.
  *
- * Images. `table` is a table image and `marking` a marking image for the table's events: exactly so long, 8 bytes per event.
+ * Images. `table` is a table image and `marking` a marking image for the table's events: exactly so long, 8 bytes per event. Bits count from the
+ * highest bit of the first byte on; each field has its highest bit first, and fields follow each other without a gap. Spare bits are 0.
+ *
+ *   Table image, 4 + events + 6 * relations bytes:
+ *     header, 4 bytes            events 7 bits, relations 9, spare 16
+ *     for each event, 1 byte     controllable 1, causable 1, spare 6
+ *     for each relation, 6 bytes kind 3, left 6, right 6, bounded 1, time 30, spare 2
+ *   Marking image, 8 * events bytes:
+ *     for each event, 8 bytes    happened 1, age 30, included 1, pending 1, bounded 1, deadline 30
+ *
+ *   As bytes, where / cuts off what is below 1 and % is what it leaves:
+ *     header    [0] = events * 2 + relations / 256, [1] = relations % 256, [2] = [3] = 0
+ *     class     controllable * 128 + causable * 64
+ *     relation  [0] = kind * 32 + left / 2, [1] = left % 2 * 128 + right * 2 + bounded, [2] to [5] = time * 4, high byte first
+ *     record    [0] to [3] = happened * 2^31 + age * 2 + included, [4] to [7] = pending * 2^31 + bounded * 2^30 + deadline, high byte first
+ *
+ *   What fits: 1 to 64 events and 0 to 256 relations; left and right below the events; ages, times and deadlines at most 1,000,000,000.
+ *     Condition: bounded 1, any time. Response: bounded 1 and a time of 1 or more, or 0 and 0 for "eventually". Any other kind: 0 and 0.
+ *     Age is 0 if not happened, bounded 0 if not pending, deadline 0 if not bounded.
+ *   docs/RULES.md has bit positions, and an example byte by byte.
  *
  * Answers. A function returns 0 for done, or the number of the refusal. The numbers are tried in this order: the table's (1 under 4 bytes;
  * 2 and 3 of the header; 1; 2 of the classes; then for each relation 2, 4, 5, 6), the marking's (1, then 7), then those named with the
@@ -21,6 +40,13 @@
  * A refusal writes nothing at all; a call that is done writes what is said and no byte past it. The one exception: 12 has a reason and a
  * place, and writes those two. An acting function (request, report, ticks, run) that is done puts the new marking's image where the old one
  * was handed in.
+ *
+ * Stack. Bytes that a call takes at most on x86-64, its callers and what they lend not counted, nor memcpy and memset of the C library. They
+ * are measured, of the compiled library, and not proved: docs/BENCH.md, 'Stack', says how. There is no recursion and no heap.
+ *     duty_guarded_tick 31,168    duty_run 30,624         duty_check 27,696         duty_closure 26,256
+ *     duty_request 24,112         duty_report 24,112      duty_plain_tick 24,112    duty_margin 24,032
+ *     duty_enabled 21,952         duty_hold_up 21,952     duty_due 20,912           duty_record 19,072
+ *     duty_remedies 18,336        duty_judge 18,272       duty_fresh 3,184          duty_size, duty_lowest 8
  */
 #ifndef DUTY_H
 #define DUTY_H
@@ -31,6 +57,9 @@
 #ifdef __cplusplus
 extern "C" {
 #endif
+
+/* It grows by one wherever a function, a number or an image is changed, so that code written for another one can refuse to compile. */
+#define DUTY_VERSION 1
 
 /* A compiler that knows these words warns where a null pointer, or an overlap with what is written, can be seen. */
 #if defined(__GNUC__)
@@ -61,7 +90,36 @@ enum duty_number {
     DUTY_STEP = 15          /* in an answer byte of a run: no such kind of step, or a tick with an event */
 };
 
-enum { DUTY_MOST_EVENTS = 64, DUTY_RECORD_BYTES = 8 };
+/* The kinds of relation in a table image: left first, right second. */
+enum duty_kind {
+    DUTY_CONDITION = 1,     /* left waits until right has happened, at least so long ago */
+    DUTY_RESPONSE = 2,      /* left makes right pending, within so many ticks or eventually */
+    DUTY_INCLUSION = 3,     /* left includes right */
+    DUTY_EXCLUSION = 4,     /* left excludes right */
+    DUTY_MILESTONE = 5      /* left waits while right is pending */
+};
+
+/* The kinds of step in a trace: the first byte of a step; the second is the event, 0 for a tick. */
+enum duty_step {
+    DUTY_REQUEST = 0,
+    DUTY_REPORT = 1,
+    DUTY_PLAIN_TICK = 2,
+    DUTY_GUARDED_TICK = 3
+};
+
+/* The parts of images, and the most that there can be. */
+enum {
+    DUTY_HEADER_BYTES = 4,
+    DUTY_RELATION_BYTES = 6,
+    DUTY_RECORD_BYTES = 8,
+    DUTY_MOST_EVENTS = 64,
+    DUTY_MOST_RELATIONS = 256,
+    DUTY_MOST_STEPS = 4096,
+    DUTY_LONGEST_LIST = 255,        /* events of an offered list */
+    DUTY_LONGEST_TABLE = 1604,      /* bytes of a table image: 4 + 64 + 6 * 256 */
+    DUTY_LONGEST_MARKING = 512,     /* bytes of a marking image: 8 * 64 */
+    DUTY_LIMIT = 1000000000         /* the largest age, time and deadline */
+};
 
 /* Images */
 
@@ -82,6 +140,12 @@ DUTY_CALL uint32_t duty_lowest(uint64_t set);
 DUTY_CALL uint8_t duty_enabled(const uint8_t *table, size_t table_length, const uint8_t *marking, size_t marking_length,
                                size_t event, uint8_t *DUTY_ALONE enabled);
 
+/* What the marking has of an event: the six fields of its record in the image's order, each in a place of its own, a flag as 0 or 1. `fields`
+   has at least 6 places, of which the first 6 are written. 8, then 14 where there are fewer. */
+enum duty_field { DUTY_HAPPENED = 0, DUTY_AGE = 1, DUTY_INCLUDED = 2, DUTY_PENDING = 3, DUTY_BOUNDED = 4, DUTY_DEADLINE = 5, DUTY_FIELDS = 6 };
+DUTY_CALL uint8_t duty_record(const uint8_t *table, size_t table_length, const uint8_t *marking, size_t marking_length,
+                              size_t event, uint32_t *DUTY_ALONE fields, size_t fields_length);
+
 /* The set of due events. */
 DUTY_CALL uint8_t duty_due(const uint8_t *table, size_t table_length, const uint8_t *marking, size_t marking_length,
                            uint64_t *DUTY_ALONE set);
@@ -97,9 +161,9 @@ enum { DUTY_ENABLED = 0, DUTY_EXCLUDED = 1, DUTY_BLOCKED = 2 };
 DUTY_CALL uint8_t duty_hold_up(const uint8_t *table, size_t table_length, const uint8_t *marking, size_t marking_length,
                                size_t event, uint8_t *DUTY_ALONE kind, size_t *DUTY_ALONE relation);
 
-/* The closure of the static check, also where it rejects. */
+/* The closure of the static check, also where it rejects, and how many events it holds. */
 DUTY_CALL uint8_t duty_closure(const uint8_t *table, size_t table_length, const uint8_t *marking, size_t marking_length,
-                               uint64_t *DUTY_ALONE set);
+                               uint64_t *DUTY_ALONE set, uint32_t *DUTY_ALONE size);
 
 /* The static check. 12 where it rejects, with the lowest reason that applies, 1 to 6, and its lowest place: an event for reasons 1, 2 and 4,
    else a relation. Where it accepts, both are written 0. */
@@ -132,9 +196,9 @@ DUTY_CALL uint8_t duty_guarded_tick(const uint8_t *table, size_t table_length, u
                                     uint8_t *DUTY_ALONE caused, size_t caused_length, size_t *DUTY_ALONE count,
                                     uint8_t *DUTY_ALONE reason, size_t *DUTY_ALONE place);
 
-/* A trace of steps of 2 bytes, kind and event: 0 request, 1 report, 2 plain tick, 3 guarded tick; ticks have event 0. One answer byte per step,
-   0 for done or the step's number (15, 8, 9, 10; 11; 12); a refused step leaves the marking and the run goes on. The marking is the one at
-   the end. 1 where the steps have an odd length; 14 above 4,096 steps, or where there are fewer answer bytes than steps. */
+/* A trace of steps of 2 bytes, a kind of duty_step and an event; ticks have event 0. One answer byte per step, 0 for done or the step's number
+   (15, 8, 9, 10; 11; 12); a refused step leaves the marking and the run goes on. The marking is the one at the end. 1 where the steps have an
+   odd length; 14 above 4,096 steps, or where there are fewer answer bytes than steps. */
 DUTY_CALL uint8_t duty_run(const uint8_t *table, size_t table_length, uint8_t *DUTY_ALONE marking, size_t marking_length,
                            const uint8_t *steps, size_t steps_length, uint8_t *DUTY_ALONE answers, size_t answers_length);
 

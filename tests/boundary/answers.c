@@ -3,7 +3,8 @@
  *
  * A question: the call's number 1 byte, the number asked about 8, then four byte strings, each behind its length of 2 bytes: table, marking,
  * a first and a second list. An answer: the number 1 byte, the small out-parameter 1, the large ones 8 and 8, then the marking and the second
- * list as they are afterwards, as long as they came. Numbers are little-endian, and the out-parameters start as bytes 0xEE.
+ * list as they are afterwards, as long as they came. Numbers are little-endian, and the out-parameters start as bytes 0xEE. The ticks and the
+ * size take the first half of a large one; the places of a record's fields are the second list, 4 bytes each.
  */
 #include "duty.h"
 #include <stdio.h>
@@ -17,6 +18,7 @@ struct list {
 };
 
 static struct list table, marking, first, second;
+static uint32_t fields[LONGEST / 4 + 1];
 
 static int take(void *bytes, size_t length) { return fread(bytes, 1, length, stdin) == length; }
 
@@ -47,10 +49,12 @@ int main(void)
         uint64_t set;
         size_t large, count;
         int32_t ticks;
+        uint32_t size;
         memset(&set, 0xEE, sizeof set);
         memset(&large, 0xEE, sizeof large);
         memset(&count, 0xEE, sizeof count);
         memset(&ticks, 0xEE, sizeof ticks);
+        memset(&size, 0xEE, sizeof size);
         switch (call) {
         case 0: number = duty_judge(TABLE, MARKING); break;
         case 1: number = duty_fresh(asked, MARKING); break;
@@ -63,17 +67,24 @@ int main(void)
         case 8: number = duty_plain_tick(TABLE, MARKING); break;
         case 9: number = duty_margin(TABLE, MARKING, asked, &small, &ticks); break;
         case 10: number = duty_hold_up(TABLE, MARKING, asked, &small, &large); break;
-        case 11: number = duty_closure(TABLE, MARKING, &set); break;
+        case 11: number = duty_closure(TABLE, MARKING, &set, &size); break;
         case 12: number = duty_check(TABLE, MARKING, &small, &large); break;
         case 13: number = duty_guarded_tick(TABLE, MARKING, SECOND, &count, &small, &large); break;
         case 14: number = duty_remedies(TABLE, MARKING, FIRST, SECOND, &small, &large); break;
         case 15: number = duty_run(TABLE, MARKING, FIRST, SECOND); break;
+        case 16:
+            memcpy(fields, second.bytes, second.length);
+            number = duty_record(TABLE, MARKING, asked, fields, second.length / sizeof fields[0]);
+            memcpy(second.bytes, fields, second.length);
+            break;
         default: return 1;
         }
         if (call == 5 || call == 11)
             large = set;
         if (call == 9)
             memcpy(&large, &ticks, sizeof ticks);
+        if (call == 11)
+            memcpy(&count, &size, sizeof size);
         put(&number, 1);
         put(&small, 1);
         put(&large, 8);

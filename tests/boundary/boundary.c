@@ -74,9 +74,10 @@ static int kept_before(struct lent l)
 }
 
 /* The out-parameters, each at the end of a page of its own. */
-static struct lent small, word, place, count;
+static struct lent small, word, half, place, count;
 #define SMALL (small.bytes)
 #define SET ((uint64_t *)(void *)word.bytes)
+#define SIZE ((uint32_t *)(void *)half.bytes)
 #define TICKS ((int32_t *)(void *)(word.bytes + 4))
 #define PLACE ((size_t *)(void *)place.bytes)
 #define COUNT ((size_t *)(void *)count.bytes)
@@ -85,6 +86,7 @@ static void shut_answers(void)
 {
     shut(small);
     shut(word);
+    shut(half);
     shut(place);
     shut(count);
 }
@@ -93,6 +95,7 @@ static void open_answers(void)
 {
     open_up(small);
     open_up(word);
+    open_up(half);
     open_up(place);
     open_up(count);
 }
@@ -100,8 +103,10 @@ static void open_answers(void)
 /* A table and a marking, and every call on them */
 
 struct images {
-    struct lent table, marking, caused, answers;
+    struct lent table, marking, caused, answers, fields;
 };
+
+enum { FIELDS = 6 };
 
 #define T(i) (i).table.bytes, (i).table.length
 #define M(i) (i).marking.bytes, (i).marking.length
@@ -113,6 +118,7 @@ static struct images take(const void *table, size_t table_length, const void *ma
     i.marking = lend(marking, marking_length);
     i.caused = lend(NULL, DUTY_MOST_EVENTS);
     i.answers = lend(NULL, 8);
+    i.fields = lend(NULL, FIELDS * sizeof(uint32_t));
     shut(i.table);
     return i;
 }
@@ -123,11 +129,17 @@ static void leave(struct images i)
     give_back(i.marking);
     give_back(i.caused);
     give_back(i.answers);
+    give_back(i.fields);
 }
 
 static uint8_t guarded(struct images i)
 {
     return duty_guarded_tick(T(i), M(i), i.caused.bytes, i.caused.length, COUNT, SMALL, PLACE);
+}
+
+static uint8_t record(struct images i, size_t event)
+{
+    return duty_record(T(i), M(i), event, (uint32_t *)(void *)i.fields.bytes, i.fields.length / sizeof(uint32_t));
 }
 
 static uint8_t run(struct images i, const void *steps, size_t length)
@@ -147,8 +159,10 @@ static void all_refused(const void *table, size_t table_length, const void *mark
     shut(i.marking);
     shut(i.caused);
     shut(i.answers);
+    shut(i.fields);
     shut_answers();
     CHECK(duty_judge(T(i), M(i)) == number);
+    CHECK(record(i, 0) == number);
     CHECK(duty_enabled(T(i), M(i), 0, SMALL) == number);
     CHECK(duty_due(T(i), M(i), SET) == number);
     CHECK(duty_request(T(i), M(i), FLUSH) == number);
@@ -156,7 +170,7 @@ static void all_refused(const void *table, size_t table_length, const void *mark
     CHECK(duty_plain_tick(T(i), M(i)) == number);
     CHECK(duty_margin(T(i), M(i), 0, SMALL, TICKS) == number);
     CHECK(duty_hold_up(T(i), M(i), 0, SMALL, PLACE) == number);
-    CHECK(duty_closure(T(i), M(i), SET) == number);
+    CHECK(duty_closure(T(i), M(i), SET, SIZE) == number);
     CHECK(duty_check(T(i), M(i), SMALL, PLACE) == number);
     CHECK(guarded(i) == number);
     CHECK(duty_remedies(T(i), M(i), list, sizeof list, list, sizeof list, SMALL, PLACE) == number);
@@ -190,7 +204,7 @@ static void plays_the_shop(void)
     shut(i.marking);
     CHECK(duty_judge(T(i), M(i)) == DUTY_DONE);
     CHECK(duty_check(T(i), M(i), SMALL, PLACE) == DUTY_DONE && *SMALL == 0 && *PLACE == 0);
-    CHECK(duty_closure(T(i), M(i), SET) == DUTY_DONE && *SET == 0x16);
+    CHECK(duty_closure(T(i), M(i), SET, SIZE) == DUTY_DONE && *SET == 0x16 && *SIZE == 3);
     CHECK(duty_size(*SET) == 3 && duty_lowest(*SET) == FLUSH);
     CHECK(duty_due(T(i), M(i), SET) == DUTY_DONE && *SET == 0);
     CHECK(duty_hold_up(T(i), M(i), FLUSH, SMALL, PLACE) == DUTY_DONE && *SMALL == DUTY_EXCLUDED && *PLACE == 0);
@@ -208,6 +222,29 @@ static void plays_the_shop(void)
     CHECK(guarded(i) == DUTY_DONE && *COUNT == 3 && memcmp(i.caused.bytes, "\2\4\1\xA5", 4) == 0 && *SMALL == 0 && *PLACE == 0);
     CHECK(kept_before(i.marking) && kept_before(i.caused) && i.caused.bytes[DUTY_MOST_EVENTS - 1] == 0xA5);
     CHECK(duty_margin(T(i), M(i), 1, SMALL, TICKS) == DUTY_DONE && *SMALL == DUTY_BY && *TICKS == 1);
+    leave(i);
+}
+
+/* The six places hold the record's fields in the image's order; a seventh stays; 8 comes before 14, and a refusal writes nothing. */
+static void tells_records(void)
+{
+    static const uint32_t flush[FIELDS] = {0, 0, 1, 1, 1, 0}, leak[FIELDS] = {1, 3, 1, 0, 0, 0}, isolate[FIELDS] = {0, 0, 1, 0, 0, 0};
+    static const uint32_t drain[FIELDS] = {0, 0, 1, 1, 0, 0};
+    uint32_t seven[FIELDS + 1] = {9, 9, 9, 9, 9, 9, 9};
+    struct images i = shop_due();
+    shut(i.marking);
+    CHECK(record(i, FLUSH) == DUTY_DONE && memcmp(i.fields.bytes, flush, sizeof flush) == 0 && kept_before(i.fields));
+    CHECK(record(i, LEAK) == DUTY_DONE && memcmp(i.fields.bytes, leak, sizeof leak) == 0);
+    CHECK(record(i, DRAIN) == DUTY_DONE && memcmp(i.fields.bytes, drain, sizeof drain) == 0);
+    CHECK(duty_record(T(i), M(i), ISOLATE, seven, FIELDS + 1) == DUTY_DONE && memcmp(seven, isolate, sizeof isolate) == 0 && seven[FIELDS] == 9);
+    shut(i.fields);
+    CHECK(record(i, EVENTS) == DUTY_NONE_SUCH);
+    CHECK(record(i, SIZE_MAX) == DUTY_NONE_SUCH);
+    i.fields.length -= sizeof(uint32_t);
+    CHECK(record(i, EVENTS) == DUTY_NONE_SUCH);
+    CHECK(record(i, EVENTS - 1) == DUTY_ROOM);
+    i.fields.length = 0;
+    CHECK(record(i, 0) == DUTY_ROOM);
     leave(i);
 }
 
@@ -409,9 +446,11 @@ int main(void)
 {
     small = lend(NULL, 1);
     word = lend(NULL, 8);
+    half = lend(NULL, sizeof(uint32_t));
     place = lend(NULL, sizeof(size_t));
     count = lend(NULL, sizeof(size_t));
     plays_the_shop();
+    tells_records();
     offers_remedies();
     refuses();
     rejects();

@@ -21,11 +21,13 @@ pub members-once : (f : ℕ → Bool) {r s : ℕ} → ((x : ℕ) → has r x ≡
 members-once f {r} {s} p q = same-word r s (λ x. p x ∙ sym (q x))
 
 -- `lay`, `give`, `effect`, `tick`, `ask`
-pub stands-once : {n clock : ℕ} {tail : List Record} {sets columns : List ℕ} {m k : Marking} → Stands n tail clock sets columns m → Stands n tail clock sets columns k → m ≡ k
+pub stands-once : {n clock : ℕ} {tail : List Record} {sets columns : List ℕ} {m k : Marking} → Stands n tail clock sets columns m
+    → Stands n tail clock sets columns k → m ≡ k
 stands-once p q = p .is ∙ sym (q .is)
 
 -- `derived`, `own`
-pub rows-once : (t : Table) (n : ℕ) (rows others links more : List ℕ) → Derived t n rows → Linked t n rows links → Derived t n others → Linked t n others more → rows ≡ others
+pub rows-once : (t : Table) (n : ℕ) (rows others links more : List ℕ) → Derived t n rows → Linked t n rows links → Derived t n others → Linked t n others more
+    → rows ≡ others
 rows-once t n rows others links more derived linked derived2 linked2 =
     ext-getD 0 rows others (derived .size ∙ sym (derived2 .size)) (λ i b. here i (omega (arith, b, derived .size)))
   where
@@ -47,6 +49,7 @@ rows-once t n rows others links more derived linked derived2 linked2 =
         small = omega arith
 
         by-sort : Dec (i % 10 < 8) → Dec (i % 10 ≡ 8) → getD rows i 0 ≡ getD others i 0
-        by-sort (yes l) d = place i (i % 10) (omega arith) (same-word _ _ (λ x. derived .row (i / 10) small (i % 10) l x ∙ sym (derived2 .row (i / 10) small (i % 10) l x)))
+        by-sort (yes l) d =
+            place i (i % 10) (omega arith) (same-word _ _ (λ x. derived .row (i / 10) small (i % 10) l x ∙ sym (derived2 .row (i / 10) small (i % 10) l x)))
         by-sort (no l) (yes q) = place i 8 q (linked .responses (i / 10) small ∙ sym (linked2 .responses (i / 10) small))
         by-sort (no l) (no q) = place i 9 (omega arith) (linked .waits (i / 10) small ∙ sym (linked2 .waits (i / 10) small))

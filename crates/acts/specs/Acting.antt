@@ -6,7 +6,6 @@ use mathlib.Core.List.{List}
 use Prim.Native.Nat.{ℕ, _<_, _+_, _/_, _%_}
 use lib.Dec.{eqb, ltb}
 use lib.ListN.{length, getD}
-use lib.Bits.{bitOr, bitAnd}
 use Rattle.rules.specs.declared.Table.{Table}
 use Rattle.rules.specs.EventSet.{has}
 use Rattle.rules.specs.Holds.{relationOf}
@@ -54,7 +53,7 @@ abbrev pub boundedAfter : List ℕ → ℕ → ℕ → ℕ → ℕ → Bool
 boundedAfter rows at bounded e x = has bounded x && not (askedAt rows at x || eqb e x) || has (getD rows (at + 3) 0) x
 
 -- the deadlines that e's bounded responses give stand in the second column, and the rest is as it was
-pub record Answered (t : Table) (e clock : ℕ) (before after : List ℕ) : Type 0 where
+pub record Responded (t : Table) (e clock : ℕ) (before after : List ℕ) : Type 0 where
   pub same-size : length after ≡ length before
   pub ages : (x : ℕ) → x < 64 → getD after x 0 ≡ getD before x 0
   pub deadlines : (x : ℕ) → x < 64

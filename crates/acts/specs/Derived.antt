@@ -1,6 +1,6 @@
 -- What is derived from the table alone: a row of ten words for each event, a link for each relation, and what is asked of such words.
 use mathlib.Core.Path.{_≡_}
-use mathlib.Core.Bool.{Bool, true, not, _&&_, cond}
+use mathlib.Core.Bool.{Bool, true, _&&_, cond}
 use mathlib.Core.List.{List}
 use Prim.Native.Nat.{ℕ, zero, suc, _<_, _+_, _*_, _%_}
 use lib.Dec.{eqb, ltb}
@@ -11,7 +11,7 @@ use Rattle.rules.specs.Counting.{some}
 use Rattle.rules.specs.EventSet.{has}
 use Rattle.rules.specs.Holds.{isCondition, isResponse, isInclusion, isMilestone, relationOf}
 use Rattle.rules.specs.Effect.{leads}
-use Rattle.rules.specs.Laws.EventSet.{withEvent}
+use Rattle.rules.specs.Shapes.Sets.{withEvent}
 use Rattle.acts.specs.declared.derived.Head.{Head}
 
 -- 0 a condition without a time, 1 with one; 2 a milestone; 3 a bounded response, 4 an eventual one; 5 an inclusion of another event; 6 an

@@ -20,8 +20,8 @@ ageAt clock columns e = limit - (getD columns e 0 - clock)
 abbrev pub ticksAt : ℕ → List ℕ → ℕ → ℕ
 ticksAt clock columns e = getD columns (64 + e) 0 - clock
 
-unfoldable pub recordAt : ℕ → List ℕ → List ℕ → ℕ → Record
-recordAt clock sets columns e = record {
+unfoldable pub recordIn : ℕ → List ℕ → List ℕ → ℕ → Record
+recordIn clock sets columns e = record {
   age = cond (has (getD sets 0 0) e) (ageAt clock columns e) 0;
   deadline = cond (has (getD sets 3 0) e) (ticksAt clock columns e) 0;
   happened = has (getD sets 0 0) e;
@@ -31,8 +31,8 @@ recordAt clock sets columns e = record {
 }
 
 -- n events, and behind them the places that are not used
-unfoldable pub markingOf : ℕ → List Record → ℕ → List ℕ → List ℕ → Marking
-markingOf n tail clock sets columns = record { records = places n (recordAt clock sets columns) ++ tail; events = n }
+unfoldable pub markingIn : ℕ → List Record → ℕ → List ℕ → List ℕ → Marking
+markingIn n tail clock sets columns = record { records = places n (recordIn clock sets columns) ++ tail; events = n }
 
 -- The words stand for a marking. No age of an event is full later than the limit from now: it would be below 0.
 pub record Stands (n : ℕ) (tail : List Record) (clock : ℕ) (sets columns : List ℕ) (m : Marking) : Type 0 where
@@ -40,7 +40,7 @@ pub record Stands (n : ℕ) (tail : List Record) (clock : ℕ) (sets columns : L
   pub four-sets : length sets ≡ 4
   pub two-columns : length columns ≡ 128
   pub ages-begun : (x : ℕ) → x < n → getD columns x 0 ≤ clock + limit
-  pub is : m ≡ markingOf n tail clock sets columns
+  pub is : m ≡ markingIn n tail clock sets columns
 
 -- of n events one that is included, pending and bounded
 abbrev pub mayBeDue : List ℕ → ℕ → ℕ → Bool

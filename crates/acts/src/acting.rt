@@ -16,7 +16,7 @@ ghost use Rattle.rules.specs.declared.Table.{Table};
 ghost use Rattle.rules.specs.Counting.{some};
 ghost use Rattle.rules.specs.EventSet.{has};
 ghost use Rattle.rules.specs.Enabled.{isEnabled};
-ghost use Rattle.rules.specs.Laws.Judge.{GoodTable};
+ghost use Rattle.rules.specs.Shapes.Good.{GoodTable};
 ghost use Rattle.acts.specs.Derived.{Own};
 ghost use Rattle.acts.specs.Stands.{Stands};
 ghost use Rattle.acts.specs.Acting.{heldBack, youngBy, isYoung, waitsFor};
@@ -42,7 +42,8 @@ fn waits(
     columns: &Columns,
 ) -> bool
     requires { ⌜ (at + 10 ≤ length (now rows)) × (length (now links) ≡ 256) ⌝ }
-    ensures { λ r. ⌜ ((t : Table) (e : ℕ) → GoodTable t → Own t (t .count) e (now (rows .entry)) at (now (links .entry)) → r ≡ some (t .count) (waitsFor t e clock included (now (columns .entry)))) ⌝ }
+    ensures { λ r. ⌜ ((t : Table) (e : ℕ) → GoodTable t → Own t (t .count) e (now (rows .entry)) at (now (links .entry))
+        → r ≡ some (t .count) (waitsFor t e clock included (now (columns .entry)))) ⌝ }
 {
     let mut next = rows[at + derived::WAITS] % 512;
     while next != 0 {
@@ -83,7 +84,8 @@ pub fn may_act(
     e: usize,
 ) -> bool
     requires { ⌜ (e < 64) × (at + 10 ≤ length (now rows)) × (length (now links) ≡ 256) ⌝ }
-    ensures { λ r. ⌜ ((t : Table) (tail : List Record) (m : Marking) → GoodTable t → Own t (t .count) e (now (rows .entry)) at (now (links .entry)) → e < t .events
+    ensures { λ r. ⌜ ((t : Table) (tail : List Record) (m : Marking) → GoodTable t → Own t (t .count) e (now (rows .entry)) at (now (links .entry))
+        → e < t .events
         → Stands (t .events) tail clock (now (sets .entry)) (now (columns .entry)) m → r ≡ isEnabled t m e) ⌝ }
 {
     let included = sets[laid::INCLUDED];

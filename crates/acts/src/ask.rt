@@ -16,8 +16,8 @@ ghost use Rattle.rules.specs.Numbers.{_if_, _else_, done};
 ghost use Rattle.rules.specs.Judge.{eventNumber};
 ghost use Rattle.rules.specs.Enabled.{isEnabled};
 ghost use Rattle.rules.specs.Effect.{effect};
-ghost use Rattle.rules.specs.Laws.Ask.{askNumber, other};
-ghost use Rattle.rules.specs.Laws.Judge.{GoodTable};
+ghost use Rattle.rules.specs.Shapes.Asked.{askNumber, other};
+ghost use Rattle.rules.specs.Shapes.Good.{GoodTable};
 ghost use Rattle.acts.specs.Derived.{headOf, Own};
 ghost use Rattle.acts.specs.Stands.{Stands};
 
@@ -47,7 +47,8 @@ fn act(
     e: usize,
 ) -> u8
     requires { ⌜ (e < 64) × (at + 10 ≤ length (now rows)) × (length (now links) ≡ 256) × (clock ≤ 2147483648) ⌝ }
-    ensures { λ r. ⌜ ((t : Table) (tail : List Record) (m : Marking) → GoodTable t → Own t (t .count) e (now (rows .entry)) at (now (links .entry)) → e < t .events
+    ensures { λ r. ⌜ ((t : Table) (tail : List Record) (m : Marking) → GoodTable t → Own t (t .count) e (now (rows .entry)) at (now (links .entry))
+        → e < t .events
         → Stands (t .events) tail clock (now (sets .entry)) (now (columns .entry)) m
         → (r ≡ (10 if not (isEnabled t m e))) × Stands (t .events) tail clock (now (sets .exit)) (now (columns .exit)) (done r (effect t m e) m)) ⌝ }
 {

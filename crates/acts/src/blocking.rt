@@ -8,7 +8,7 @@ ghost use mathlib.Core.Bool.{_&&_};
 ghost use lib.Dec.{eqb};
 ghost use Rattle.rules.specs.Counting.{lowest};
 ghost use Rattle.rules.specs.Enabled.{stops, blocks};
-ghost use Rattle.rules.specs.Laws.Judge.{Good};
+ghost use Rattle.rules.specs.Shapes.Good.{Good};
 
 // A relation stops its left event, where r is the record of its right event.
 fn stops(k: Relation, r: Record) -> bool

@@ -8,7 +8,7 @@ use rules::Table;
 ghost use mathlib.Core.Path.{_≡_};
 ghost use Prim.Native.Nat.{_<_, _≤_, _+_};
 ghost use lib.ListN.{length, replicate};
-ghost use Rattle.rules.specs.Laws.Judge.{GoodTable, GoodRelation};
+ghost use Rattle.rules.specs.Shapes.Good.{GoodTable, GoodRelation};
 ghost use Rattle.acts.specs.Derived.{sortOf, chainOf, linkOf, linksNoted, rowsNoted, headOf, Own, Derived, Linked};
 
 // How many words a row has.

@@ -16,10 +16,10 @@ ghost use Rattle.rules.specs.declared.Marking.{Marking as Marked};
 ghost use Rattle.rules.specs.declared.Table.{Table};
 ghost use Rattle.rules.specs.EventSet.{has};
 ghost use Rattle.rules.specs.Effect.{effect};
-ghost use Rattle.rules.specs.Laws.Judge.{GoodTable};
+ghost use Rattle.rules.specs.Shapes.Good.{GoodTable};
 ghost use Rattle.acts.specs.Derived.{Own};
 ghost use Rattle.acts.specs.Stands.{Stands};
-ghost use Rattle.acts.specs.Acting.{includedAfter, pendingAfter, boundedAfter, Answered};
+ghost use Rattle.acts.specs.Acting.{includedAfter, pendingAfter, boundedAfter, Responded};
 
 // The included events after it; inclusion wins over exclusion.
 fn included_after(rows: &[u64], at: usize, included: u64) -> u64
@@ -65,7 +65,7 @@ fn earlier(known: bool, until: u32, old: u32) -> u32
 fn answered(rows: &[u64], at: usize, links: &[u64], clock: u32, columns: &mut Columns)
     requires { ⌜ (at + 10 ≤ length (now rows)) × (length (now links) ≡ 256) × (clock ≤ 2147483648) ⌝ }
     ensures { λ _. ⌜ ((t : Table) (e : ℕ) → GoodTable t → Own t (t .count) e (now (rows .entry)) at (now (links .entry)) → length (now (columns .entry)) ≡ 128
-        → Answered t e clock (now (columns .entry)) (now (columns .exit))) ⌝ }
+        → Responded t e clock (now (columns .entry)) (now (columns .exit))) ⌝ }
 {
     let mut next = rows[at + derived::RESPONSES] % 512;
     let mut seen: u64 = 0;
@@ -95,7 +95,8 @@ pub fn effect(
     e: usize,
 )
     requires { ⌜ (e < 64) × (at + 10 ≤ length (now rows)) × (length (now links) ≡ 256) × (clock ≤ 2147483648) ⌝ }
-    ensures { λ _. ⌜ ((t : Table) (tail : List Record) (m : Marked) → GoodTable t → Own t (t .count) e (now (rows .entry)) at (now (links .entry)) → e < t .events
+    ensures { λ _. ⌜ ((t : Table) (tail : List Record) (m : Marked) → GoodTable t → Own t (t .count) e (now (rows .entry)) at (now (links .entry))
+        → e < t .events
         → Stands (t .events) tail clock (now (sets .entry)) (now (columns .entry)) m
         → Stands (t .events) tail clock (now (sets .exit)) (now (columns .exit)) (effect t m e)) ⌝ }
 {

@@ -7,7 +7,7 @@ ghost use mathlib.Core.Path.{_≡_};
 ghost use Prim.Native.Nat.{_<_};
 ghost use Rattle.rules.specs.Enabled.{isEnabled};
 ghost use Rattle.rules.specs.HoldUp.{holdUpOf};
-ghost use Rattle.rules.specs.Laws.Judge.{Good};
+ghost use Rattle.rules.specs.Shapes.Good.{Good};
 
 pub fn is_enabled(t: Table, m: Marking, e: usize) -> bool
     requires { ⌜ Good t m ⌝ }

@@ -11,8 +11,8 @@ ghost use lib.ListN.{length, getD, drop};
 ghost use Rattle.rules.specs.declared.Marking.{Marking as Marked};
 ghost use Rattle.rules.specs.EventSet.{has};
 ghost use Rattle.rules.specs.Holds.{limit};
-ghost use Rattle.rules.specs.Laws.Judge.{GoodMarking};
-ghost use Rattle.acts.specs.Stands.{recordAt, ageAt, Stands};
+ghost use Rattle.rules.specs.Shapes.Good.{GoodMarking};
+ghost use Rattle.acts.specs.Stands.{recordIn, ageAt, Stands};
 
 // The places of the sets.
 pub const HAPPENED: usize = 0;
@@ -98,7 +98,7 @@ pub fn age_at(clock: u32, columns: &Columns, e: usize) -> u32
 // The record of event e.
 fn record_at(clock: u32, sets: &[u64; 4], columns: &Columns, e: usize) -> Record
     requires { ⌜ e < 64 ⌝ }
-    ensures { λ r. ⌜ r ≡ recordAt clock (now (sets .entry)) (now (columns .entry)) e ⌝ }
+    ensures { λ r. ⌜ r ≡ recordIn clock (now (sets .entry)) (now (columns .entry)) e ⌝ }
 {
     let happened = event_set::has_event(sets[HAPPENED], e);
     let included = event_set::has_event(sets[INCLUDED], e);
@@ -127,7 +127,8 @@ fn record_at(clock: u32, sets: &[u64; 4], columns: &Columns, e: usize) -> Record
 // The marking that the words stand for: that which was laid out, with other records; its unused places are as they were.
 pub fn give(m: Marking, clock: u32, sets: &[u64; 4], columns: &Columns) -> Marking
     requires { ⌜ m .events ≤ 64 ⌝ }
-    ensures { λ r. ⌜ ((after : Marked) → Stands (m .events) (drop (m .events) (m .records)) clock (now (sets .entry)) (now (columns .entry)) after → r ≡ after) ⌝ }
+    ensures { λ r. ⌜ ((after : Marked) → Stands (m .events) (drop (m .events) (m .records)) clock (now (sets .entry)) (now (columns .entry)) after
+        → r ≡ after) ⌝ }
 {
     let n = m.events;
     let mut records = m.records;

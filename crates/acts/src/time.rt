@@ -11,7 +11,7 @@ ghost use Rattle.rules.specs.declared.Record.{Record};
 ghost use Rattle.rules.specs.declared.Marking.{Marking};
 ghost use Rattle.rules.specs.EventSet.{has};
 ghost use Rattle.rules.specs.Time.{dueSet, time};
-ghost use Rattle.rules.specs.Laws.EventSet.{withEvent};
+ghost use Rattle.rules.specs.Shapes.Sets.{withEvent};
 ghost use Rattle.acts.specs.Stands.{Stands, mayBeDue};
 
 // The included, pending and bounded events below n.
@@ -51,7 +51,8 @@ pub fn due(clock: u32, sets: &[u64; 4], columns: &Columns, n: usize) -> u64
 // One tick: the clock alone moves on.
 pub fn tick(clock: u32) -> u32
     requires { ⌜ clock < 2147483648 ⌝ }
-    ensures { λ r. ⌜ ((n : ℕ) (tail : List Record) (sets columns : List ℕ) (m : Marking) → Stands n tail clock sets columns m → Stands n tail r sets columns (time m)) ⌝ }
+    ensures { λ r. ⌜ ((n : ℕ) (tail : List Record) (sets columns : List ℕ) (m : Marking) → Stands n tail clock sets columns m
+        → Stands n tail r sets columns (time m)) ⌝ }
     ensures { λ r. ⌜ r ≡ clock + 1 ⌝ }
 {
     clock + 1

@@ -5,7 +5,7 @@ ghost use Prim.Native.Nat.{ℕ, _<_, _≤_};
 ghost use lib.Dec.{ltb};
 ghost use mathlib.Core.Bool.{_&&_, not};
 ghost use Rattle.rules.specs.EventSet.{has, lowestOf};
-ghost use Rattle.rules.specs.Laws.EventSet.{withEvent};
+ghost use Rattle.rules.specs.Shapes.Sets.{withEvent};
 
 // The set, with the event.
 pub fn adding(set: u64, event: usize) -> u64

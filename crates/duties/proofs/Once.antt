@@ -14,7 +14,8 @@ use Rattle.duties.specs.Reasons.{Led}
 use Rattle.duties.specs.Taking.{Awaits}
 
 -- `reached`: each of the two lies in the other
-pub reached-once : {rows : List ℕ} {conditions milestones set r s : ℕ} → Reached rows conditions milestones set r → Reached rows conditions milestones set s → r ≡ s
+pub reached-once : {rows : List ℕ} {conditions milestones set r s : ℕ} → Reached rows conditions milestones set r → Reached rows conditions milestones set s
+    → r ≡ s
 reached-once {rows} {conditions} {milestones} {set} {r} {s} p q =
     same-word r s (λ x. same-test (has r x) (has s x) (p .within (has s) (q .starts) (q .on) x) (q .within (has r) (p .starts) (p .on) x))
 
@@ -23,7 +24,8 @@ pub led-once : (rows : List ℕ) (sort set : ℕ) {r s : ℕ} → Led rows sort 
 led-once rows sort set {r} {s} p q = same-word r s (λ x. p x ∙ sym (q x))
 
 -- the events that wait for each event, `ready`
-pub awaits-once : (rows : List ℕ) (set : ℕ) (waiting others : List ℕ) → length waiting ≡ 64 → length others ≡ 64 → Awaits rows set waiting → Awaits rows set others
+pub awaits-once : (rows : List ℕ) (set : ℕ) (waiting others : List ℕ) → length waiting ≡ 64 → length others ≡ 64 → Awaits rows set waiting
+    → Awaits rows set others
     → waiting ≡ others
 awaits-once rows set waiting others a b p q =
     ext-getD 0 waiting others (a ∙ sym b) (λ i l. same-word _ _ (λ x. p i (omega (arith, l, a)) x ∙ sym (q i (omega (arith, l, a)) x)))

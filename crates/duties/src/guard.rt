@@ -16,10 +16,10 @@ ghost use Rattle.rules.specs.declared.Record.{Record};
 ghost use Rattle.rules.specs.declared.Marking.{Marking};
 ghost use Rattle.rules.specs.declared.Table.{Table};
 ghost use Rattle.rules.specs.Guard.{needed, orderOf, takenAll, executedOf, caused as causedBy, guarded};
-ghost use Rattle.rules.specs.Laws.Judge.{GoodTable, Good};
+ghost use Rattle.rules.specs.Shapes.Good.{GoodTable, Good};
 ghost use Rattle.acts.specs.Derived.{Derived, Linked};
 ghost use Rattle.acts.specs.Stands.{Stands};
-ghost use Rattle.duties.specs.Noted.{Told};
+ghost use Rattle.duties.specs.AtStart.{AtStart};
 ghost use Rattle.duties.specs.Taking.{TakenOne};
 
 // The due events and, repeatedly, the inhibitors that hold them back; with nothing due there is nothing to look for.
@@ -52,7 +52,8 @@ fn take(
     requires { ⌜ (length (now rows) ≡ 640) × (length (now links) ≡ 256) × (clock ≤ 2147483648) ⌝ }
     requires { ⌜ (count < 64) × (e < 64) ⌝ }
     ensures { λ r. ⌜ (r ≤ count + 1) ⌝ }
-    ensures { λ r. ⌜ ((t : Table) (tail : List Record) (m : Marking) → GoodTable t → Derived t (t .count) (now (rows .entry)) → Linked t (t .count) (now (rows .entry)) (now (links .entry)) → e < t .events
+    ensures { λ r. ⌜ ((t : Table) (tail : List Record) (m : Marking) → GoodTable t → Derived t (t .count) (now (rows .entry))
+        → Linked t (t .count) (now (rows .entry)) (now (links .entry)) → e < t .events
         → Stands (t .events) tail clock (now (sets .entry)) (now (columns .entry)) m
         → TakenOne t m e (now (caused .entry)) count (now (caused .exit)) r (Stands (t .events) tail clock (now (sets .exit)) (now (columns .exit)))) ⌝ }
 {
@@ -76,10 +77,11 @@ fn take_all(
     needed: u64,
 ) -> usize
     requires { ⌜ (n ≤ 64) × (length (now rows) ≡ 640) × (length (now links) ≡ 256) × (clock ≤ 2147483648) ⌝ }
-    ensures { λ r. ⌜ ((t : Table) (tail : List Record) (m : Marking) → GoodTable t → Derived t (t .count) (now (rows .entry)) → Linked t (t .count) (now (rows .entry)) (now (links .entry)) → t .events ≡ n
+    ensures { λ r. ⌜ ((t : Table) (tail : List Record) (m : Marking) → GoodTable t → Derived t (t .count) (now (rows .entry))
+        → Linked t (t .count) (now (rows .entry)) (now (links .entry)) → t .events ≡ n
         → needed < 2 ^ n → length (now (caused .entry)) ≡ 64 → Stands n tail clock (now (sets .entry)) (now (columns .entry)) m
         → Stands n tail clock (now (sets .exit)) (now (columns .exit)) (takenAll t m (orderOf t n needed))
-        × Told (executedOf t m (orderOf t n needed)) (now (caused .entry)) r (now (caused .exit))) ⌝ }
+        × AtStart (executedOf t m (orderOf t n needed)) (now (caused .entry)) r (now (caused .exit))) ⌝ }
 {
     let mut waiting = [0; 64];
     let mut untaken = needed;
@@ -111,10 +113,11 @@ pub fn guarded(
     n: usize,
 ) -> usize
     requires { ⌜ (0 < n) × (n ≤ 64) × (length (now rows) ≡ 640) × (length (now links) ≡ 256) × (clock ≤ 2147483648) ⌝ }
-    ensures { λ r. ⌜ ((t : Table) (tail : List Record) (m : Marking) → GoodTable t → Derived t (t .count) (now (rows .entry)) → Linked t (t .count) (now (rows .entry)) (now (links .entry)) → t .events ≡ n
+    ensures { λ r. ⌜ ((t : Table) (tail : List Record) (m : Marking) → GoodTable t → Derived t (t .count) (now (rows .entry))
+        → Linked t (t .count) (now (rows .entry)) (now (links .entry)) → t .events ≡ n
         → length (now (caused .entry)) ≡ 64 → Stands n tail clock (now (sets .entry)) (now (columns .entry)) m
         → Stands n tail (clock + 1) (now (sets .exit)) (now (columns .exit)) (guarded t m)
-        × Told (causedBy t m) (now (caused .entry)) r (now (caused .exit))) ⌝ }
+        × AtStart (causedBy t m) (now (caused .entry)) r (now (caused .exit))) ⌝ }
 {
     let untaken = needed(rows, clock, sets, columns, n);
     if untaken == 0 {

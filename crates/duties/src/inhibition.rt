@@ -9,7 +9,7 @@ ghost use Rattle.rules.specs.declared.Table.{Table};
 ghost use Rattle.rules.specs.Counting.{lowest};
 ghost use Rattle.rules.specs.EventSet.{has};
 ghost use Rattle.rules.specs.Check.{awaited, onCycle};
-ghost use Rattle.rules.specs.Laws.Judge.{GoodTable};
+ghost use Rattle.rules.specs.Shapes.Good.{GoodTable};
 ghost use Rattle.acts.specs.Derived.{Derived};
 ghost use Rattle.duties.specs.Inhibition.{Cleared, inhibitorsIn, Reached};
 

@@ -7,7 +7,7 @@ ghost use Prim.Native.Nat.{ℕ, _<_};
 ghost use lib.Dec.{eqb};
 ghost use lib.ListN.{length, getD, replicate};
 ghost use Rattle.rules.specs.EventSet.{has};
-ghost use Rattle.rules.specs.Laws.EventSet.{withEvent};
+ghost use Rattle.rules.specs.Shapes.Sets.{withEvent};
 ghost use Rattle.duties.specs.Inhibition.{inhibitorsIn, readyIn};
 ghost use Rattle.duties.specs.Taking.{Awaits};
 
@@ -15,7 +15,8 @@ ghost use Rattle.duties.specs.Taking.{Awaits};
 fn await_each(waiting: &mut [u64; 64], set: u64, e: usize)
     requires { ⌜ (e < 64) × (length (now waiting) ≡ 64) ⌝ }
     ensures { λ _. ⌜ length (now (waiting .exit)) ≡ 64 ⌝ }
-    ensures { λ _. ⌜ ((x : ℕ) → x < 64 → getD (now (waiting .exit)) x 0 ≡ cond (has set x) (withEvent (getD (now (waiting .entry)) x 0) e) (getD (now (waiting .entry)) x 0)) ⌝ }
+    ensures { λ _. ⌜ ((x : ℕ) → x < 64
+        → getD (now (waiting .exit)) x 0 ≡ cond (has set x) (withEvent (getD (now (waiting .entry)) x 0) e) (getD (now (waiting .entry)) x 0)) ⌝ }
 {
     let mut left = set;
     while left != 0 {

@@ -19,7 +19,7 @@ ghost use Rattle.rules.specs.declared.Marking.{Marking};
 ghost use Rattle.rules.specs.EventSet.{has, setOf};
 ghost use Rattle.rules.specs.Closure.{closure};
 ghost use Rattle.rules.specs.Check.{unreportable, verdict};
-ghost use Rattle.rules.specs.Laws.Judge.{GoodTable};
+ghost use Rattle.rules.specs.Shapes.Good.{GoodTable};
 ghost use Rattle.duties.specs.Reasons.{Led, suits, applies, numberOf, firstReason, verdictBy, verdictOf};
 ghost use Rattle.acts.specs.Derived.{headOf, Derived};
 ghost use Rattle.duties.specs.Inhibition.{heldIn};
@@ -151,7 +151,8 @@ fn held(rows: &[u64], set: u64) -> u64
 // The events of reason 1.
 fn unreportable(rows: &[u64], head: Head, sets: &[u64; 4]) -> u64
     requires { ⌜ (0 < head .events) × (head .events ≤ 64) × (length (now rows) ≡ 640) ⌝ }
-    ensures { λ r. ⌜ ((t : Table) (tail : List Record) (clock : ℕ) (columns : List ℕ) (m : Marking) → GoodTable t → Derived t (t .count) (now (rows .entry)) → head ≡ headOf t
+    ensures { λ r. ⌜ ((t : Table) (tail : List Record) (clock : ℕ) (columns : List ℕ) (m : Marking) → GoodTable t → Derived t (t .count) (now (rows .entry))
+        → head ≡ headOf t
         → Stands (t .events) tail clock (now (sets .entry)) columns m → r ≡ setOf (t .events) (unreportable t m)) ⌝ }
 {
     let every = word::first(head.events);
@@ -164,7 +165,8 @@ fn unreportable(rows: &[u64], head: Head, sets: &[u64; 4]) -> u64
 // The busy events and, repeatedly, their inhibitors; of n events.
 pub fn closure(rows: &[u64], sets: &[u64; 4], n: usize) -> u64
     requires { ⌜ (0 < n) × (n ≤ 64) × (length (now rows) ≡ 640) ⌝ }
-    ensures { λ r. ⌜ ((t : Table) (tail : List Record) (clock : ℕ) (columns : List ℕ) (m : Marking) → GoodTable t → Derived t (t .count) (now (rows .entry)) → t .events ≡ n
+    ensures { λ r. ⌜ ((t : Table) (tail : List Record) (clock : ℕ) (columns : List ℕ) (m : Marking) → GoodTable t → Derived t (t .count) (now (rows .entry))
+        → t .events ≡ n
         → Stands n tail clock (now (sets .entry)) columns m → r ≡ closure t m) ⌝ }
 {
     let every = word::first(n);
@@ -181,7 +183,8 @@ pub fn closure(rows: &[u64], sets: &[u64; 4], n: usize) -> u64
 // Reasons 2 to 6, the first that applies; an event's at its lowest place.
 fn found_of(rows: &[u64], head: Head, closed: u64) -> Finding
     requires { ⌜ length (now rows) ≡ 640 ⌝ }
-    ensures { λ r. ⌜ ((t : Table) → GoodTable t → Derived t (t .count) (now (rows .entry)) → head ≡ headOf t → closed < 2 ^ t .events → verdictBy t r ≡ verdictOf t closed) ⌝ }
+    ensures { λ r. ⌜ ((t : Table) → GoodTable t → Derived t (t .count) (now (rows .entry)) → head ≡ headOf t → closed < 2 ^ t .events
+        → verdictBy t r ≡ verdictOf t closed) ⌝ }
 {
     let uncausable = word::without(closed, head.causable);
     if uncausable != 0 {
@@ -208,7 +211,8 @@ fn found_of(rows: &[u64], head: Head, closed: u64) -> Finding
 // What the words of a judged table and marking say of the check. No relation is looked at.
 pub fn found(rows: &[u64], head: Head, sets: &[u64; 4]) -> Finding
     requires { ⌜ (0 < head .events) × (head .events ≤ 64) × (length (now rows) ≡ 640) ⌝ }
-    ensures { λ r. ⌜ ((t : Table) (tail : List Record) (clock : ℕ) (columns : List ℕ) (m : Marking) → GoodTable t → Derived t (t .count) (now (rows .entry)) → head ≡ headOf t
+    ensures { λ r. ⌜ ((t : Table) (tail : List Record) (clock : ℕ) (columns : List ℕ) (m : Marking) → GoodTable t → Derived t (t .count) (now (rows .entry))
+        → head ≡ headOf t
         → Stands (t .events) tail clock (now (sets .entry)) columns m → verdictBy t r ≡ verdict t m) ⌝ }
 {
     let barred = unreportable(rows, head, sets);

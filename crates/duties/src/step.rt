@@ -22,7 +22,7 @@ ghost use Rattle.rules.specs.Numbers.{done, checkNumber};
 ghost use Rattle.rules.specs.Check.{verdict};
 ghost use Rattle.rules.specs.Time.{time, plainTickNumber};
 ghost use Rattle.rules.specs.Guard.{guarded};
-ghost use Rattle.rules.specs.Laws.Judge.{GoodTable};
+ghost use Rattle.rules.specs.Shapes.Good.{GoodTable};
 ghost use Rattle.acts.specs.Derived.{headOf, Derived, Linked};
 ghost use Rattle.acts.specs.Stands.{Stands};
 ghost use Rattle.duties.specs.Step.{Turned};
@@ -49,7 +49,8 @@ pub fn plain_number(clock: u32, sets: &[u64; 4], columns: &Columns, n: usize) ->
 fn guard_number(rows: &[u64], head: Head, sets: &[u64; 4], accepted: bool) -> u8
     requires { ⌜ (0 < head .events) × (head .events ≤ 64) × (length (now rows) ≡ 640) ⌝ }
     ensures { λ r. ⌜ ((t : Table) (tail : List Record) (clock : ℕ) (columns : List ℕ) (m : Marking) → GoodTable t → Derived t (t .count) (now (rows .entry))
-        → head ≡ headOf t → (accepted ≡ true → verdict t m ≡ Accepts) → Stands (t .events) tail clock (now (sets .entry)) columns m → r ≡ checkNumber (verdict t m)) ⌝ }
+        → head ≡ headOf t → (accepted ≡ true → verdict t m ≡ Accepts) → Stands (t .events) tail clock (now (sets .entry)) columns m
+        → r ≡ checkNumber (verdict t m)) ⌝ }
 {
     if accepted {
         return 0;
@@ -75,7 +76,8 @@ fn tick_step(
 ) -> Stepped
     requires { ⌜ (0 < head .events) × (head .events ≤ 64) × (length (now rows) ≡ 640) × (length (now links) ≡ 256) × (clock < 2147483648) ⌝ }
     ensures { λ r. ⌜ (r .clock ≤ clock + 1) ⌝ }
-    ensures { λ r. ⌜ ((t : Table) (tail : List Record) (m : Marking) → GoodTable t → Derived t (t .count) (now (rows .entry)) → Linked t (t .count) (now (rows .entry)) (now (links .entry))
+    ensures { λ r. ⌜ ((t : Table) (tail : List Record) (m : Marking) → GoodTable t → Derived t (t .count) (now (rows .entry))
+        → Linked t (t .count) (now (rows .entry)) (now (links .entry))
         → head ≡ headOf t → (accepted ≡ true → verdict t m ≡ Accepts) → Stands (t .events) tail clock (now (sets .entry)) (now (columns .entry)) m
         → Turned t tail m accepted (cond guarding 3 2) 0 r (now (sets .exit)) (now (columns .exit))) ⌝ }
 {
@@ -117,7 +119,8 @@ pub fn step(
 ) -> Stepped
     requires { ⌜ (0 < head .events) × (head .events ≤ 64) × (length (now rows) ≡ 640) × (length (now links) ≡ 256) × (clock < 2147483648) ⌝ }
     ensures { λ r. ⌜ (r .clock ≤ clock + 1) ⌝ }
-    ensures { λ r. ⌜ ((t : Table) (tail : List Record) (m : Marking) → GoodTable t → Derived t (t .count) (now (rows .entry)) → Linked t (t .count) (now (rows .entry)) (now (links .entry))
+    ensures { λ r. ⌜ ((t : Table) (tail : List Record) (m : Marking) → GoodTable t → Derived t (t .count) (now (rows .entry))
+        → Linked t (t .count) (now (rows .entry)) (now (links .entry))
         → head ≡ headOf t → (accepted ≡ true → verdict t m ≡ Accepts) → Stands (t .events) tail clock (now (sets .entry)) (now (columns .entry)) m
         → Turned t tail m accepted kind event r (now (sets .exit)) (now (columns .exit))) ⌝ }
 {

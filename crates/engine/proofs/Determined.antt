@@ -58,16 +58,16 @@ pub plain-tick-determined : Determined plain-tick-kinds.ps plain-tick-kinds.r pl
 plain-tick-determined κs a x y s s′ p q = p ∙ sym q
 
 pub margin-determined : Determined margin-kinds.ps margin-kinds.r margin-reads.Post
-margin-determined κs a x y s s′ p q = p ∙ sym q
+margin-determined κs a x y s s′ p q = p .0 ∙ sym (q .0)
 
 pub hold-up-determined : Determined hold-up-kinds.ps hold-up-kinds.r hold-up-reads.Post
-hold-up-determined κs a x y s s′ p q = p ∙ sym q
+hold-up-determined κs a x y s s′ p q = p .0 ∙ sym (q .0)
 
 pub closure-determined : Determined closure-kinds.ps closure-kinds.r closure-reads.Post
 closure-determined κs a x y s s′ p q = p ∙ sym q
 
 pub check-determined : Determined check-kinds.ps check-kinds.r check-reads.Post
-check-determined κs a x y s s′ p q = p ∙ sym q
+check-determined κs a x y s s′ p q = p .0 ∙ sym (q .0)
 
 pub guarded-tick-determined : Determined guarded-tick-kinds.ps guarded-tick-kinds.r guarded-tick-reads.Post
 guarded-tick-determined κs a x y s s′ p q = p ∙ sym q

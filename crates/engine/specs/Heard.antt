@@ -1,34 +1,16 @@
--- The call that the station program stands on. The program reads its whole input and keeps the first bytes of it. Bytes past the longest input
--- that can be granted count by their number alone, so zeros stand for them (specs/Laws/Heard: the answer is the same).
-use mathlib.Core.Path.{_≡_}
-use mathlib.Core.Bool.{Bool, not, _&&_, _||_, cond}
+-- What the station writes, part by part, for the functions within its call. What the call promises stands in `Station` of the crate `rules`.
 use mathlib.Core.List.{List, [], _∷_, _++_}
 use Prim.Native.Nat.{ℕ, _+_, _*_, _/_, _%_}
-use lib.Dec.{eqb, ltb}
-use lib.ListN.{length, take, drop, replicate}
+use lib.Dec.{eqb}
+use lib.ListN.{length, take, drop}
 use Rattle.rules.specs.declared.Table.{Table}
 use Rattle.rules.specs.declared.Marking.{Marking}
 use Rattle.rules.specs.Numbers.{_if_, _else_, done}
 use Rattle.rules.specs.Judge.{judged}
 use Rattle.rules.specs.Image.{recordBytes, readMarking, markingImage}
-use Rattle.rules.specs.Trace.{mostSteps, traceNumber, stepsIn, endOf, answersOf}
-use Rattle.rules.specs.Station.{station}
-use Rattle.rules.specs.Laws.Station.{longestMarking, longest}
-pub use Rattle.duties.specs.Noted.{Told}
+use Rattle.rules.specs.Trace.{traceNumber, stepsIn, endOf, answersOf}
 
--- the longest output: an answer byte for each step, and the end marking
-abbrev pub longestOutput : ℕ
-longestOutput = mostSteps + longestMarking
-
--- The call is not for an output shorter than the longest, nor for bytes said to come after fewer kept ones than the longest input has
-unfoldable pub misused : ℕ → ℕ → ℕ → Bool
-misused kept beyond room = ltb room longestOutput || not (eqb beyond 0) && ltb kept longest
-
--- what is written for the kept bytes and so many beyond them: nothing where the call is misused
-unfoldable pub written : List ℕ → ℕ → ℕ → List ℕ
-written kept beyond room = cond (misused (length kept) beyond room) [] (station (kept ++ replicate beyond 0))
-
--- Part by part, for the functions within. What is written once the marking is read, for the kept step bytes and so many beyond
+-- what is written once the marking is read, for the kept step bytes and so many beyond
 unfoldable pub afterMarking : Table → Marking → List ℕ → ℕ → List ℕ
 afterMarking t m kept beyond =
     let steps = length kept + beyond in

@@ -9,7 +9,7 @@ ghost use mathlib.Core.Path.{_≡_};
 ghost use Rattle.rules.specs.Numbers.{done};
 ghost use Rattle.rules.specs.Judge.{judged};
 ghost use Rattle.rules.specs.Effect.{effect};
-ghost use Rattle.rules.specs.Laws.Ask.{askNumber};
+ghost use Rattle.rules.specs.Shapes.Asked.{askNumber};
 
 // Only the event's own row and links are made.
 pub fn asked(t: Table, m: Marking, event: usize, controllable: bool) -> MarkingAnswer

@@ -9,13 +9,14 @@ ghost use mathlib.Core.Path.{_≡_};
 ghost use mathlib.Core.Logic.{_⊎_};
 ghost use Prim.Native.Nat.{_+_, _%_, _≤_, min};
 ghost use lib.Dec.{eqb};
-ghost use lib.ListN.{length};
+ghost use mathlib.Core.List.{_++_};
+ghost use lib.ListN.{length, replicate};
 ghost use Rattle.rules.specs.Numbers.{_if_, _else_};
 ghost use Rattle.rules.specs.Holds.{mostEvents};
 ghost use Rattle.rules.specs.Judge.{judged};
-ghost use Rattle.rules.specs.Laws.Station.{longestMarking, longestSteps, tableBytes};
-ghost use Rattle.engine.specs.Heard.{longestOutput, misused, afterTable, afterMarking};
-ghost use Rattle.duties.specs.Noted.{Told};
+ghost use Rattle.rules.specs.Station.{tableBytes, station, longestMarking, longestSteps, longestInput, longestOutput, heardNumber};
+ghost use Rattle.engine.specs.Heard.{afterTable, afterMarking};
+ghost use Rattle.duties.specs.AtStart.{AtStart};
 
 // The longest table that is granted, in bytes.
 const TABLE: usize = 4 + Table::MOST_EVENTS + 6 * Table::MOST_RELATIONS;
@@ -38,21 +39,24 @@ fn least(a: usize, b: usize) -> usize
     if a < b { a } else { b }
 }
 
-// The call is not for an output that may be too short, nor for bytes said to come after fewer than are kept of a longest input.
-pub fn misused(kept: usize, beyond: usize, room: usize) -> bool
-    ensures { λ r. ⌜ r ≡ misused kept beyond room ⌝ }
+// 14 for an output that could be too short, and for bytes said to come after fewer kept ones than the longest input has.
+pub fn number(kept: usize, beyond: usize, room: usize) -> u8
+    ensures { λ r. ⌜ r ≡ heardNumber kept beyond room ⌝ }
 {
     if room < LONGEST_OUTPUT {
-        return true;
+        return 14;
     }
     if beyond == 0 {
-        return false;
+        return 0;
     }
-    kept < LONGEST_INPUT
+    if kept < LONGEST_INPUT {
+        return 14;
+    }
+    0
 }
 
 // How many bytes of the input the table has: as many as its header says, if they are there.
-pub fn table_part(input: &[u8]) -> usize
+fn table_part(input: &[u8]) -> usize
     ensures { λ r. ⌜ r ≡ min (tableBytes (now (input .entry))) (length (now (input .entry))) ⌝ }
 {
     if input.len() < 4 {
@@ -81,7 +85,7 @@ fn long_number(t: Table, m: Marking, kept: usize, beyond: usize) -> u8
 fn after_marking(t: Table, m: Marking, steps: &[u8], beyond: usize, output: &mut [u8]) -> usize
     requires { ⌜ longestOutput ≤ length (now output) ⌝ }
     requires { ⌜ (beyond ≡ 0) ⊎ (longestSteps ≤ length (now steps)) ⌝ }
-    ensures { λ r. ⌜ Told (afterMarking t m (now (steps .entry)) beyond) (now (output .entry)) r (now (output .exit)) ⌝ }
+    ensures { λ r. ⌜ AtStart (afterMarking t m (now (steps .entry)) beyond) (now (output .entry)) r (now (output .exit)) ⌝ }
 {
     if beyond != 0 {
         output[0] = long_number(t, m, steps.len(), beyond);
@@ -99,11 +103,11 @@ fn after_marking(t: Table, m: Marking, steps: &[u8], beyond: usize, output: &mut
 }
 
 // The marking is read, and the steps behind it are played.
-pub fn after_table(t: Table, rest: &[u8], beyond: usize, output: &mut [u8]) -> usize
+fn after_table(t: Table, rest: &[u8], beyond: usize, output: &mut [u8]) -> usize
     requires { ⌜ t .events ≤ mostEvents ⌝ }
     requires { ⌜ longestOutput ≤ length (now output) ⌝ }
     requires { ⌜ (beyond ≡ 0) ⊎ (longestMarking + longestSteps ≤ length (now rest)) ⌝ }
-    ensures { λ r. ⌜ Told (afterTable t (now (rest .entry)) beyond) (now (output .entry)) r (now (output .exit)) ⌝ }
+    ensures { λ r. ⌜ AtStart (afterTable t (now (rest .entry)) beyond) (now (output .entry)) r (now (output .exit)) ⌝ }
 {
     let size = least(Marking::RECORD_BYTES * t.events, rest.len());
     let read = image::read_marking(t.events, &rest[..size]);
@@ -113,4 +117,20 @@ pub fn after_table(t: Table, rest: &[u8], beyond: usize, output: &mut [u8]) -> u
     }
     let m = read.marking;
     after_marking(t, m, &rest[size..], beyond, output)
+}
+
+// The table is read, and what stands behind it is heard. What is written goes to the start of the output; the answer is how many bytes.
+pub fn whole(input: &[u8], beyond: usize, output: &mut [u8]) -> usize
+    requires { ⌜ longestOutput ≤ length (now output) ⌝ }
+    requires { ⌜ (beyond ≡ 0) ⊎ (longestInput ≤ length (now input)) ⌝ }
+    ensures { λ r. ⌜ AtStart (station (now (input .entry) ++ replicate beyond 0)) (now (output .entry)) r (now (output .exit)) ⌝ }
+{
+    let size = table_part(input);
+    let read = image::read_table(&input[..size]);
+    if read.number != 0 {
+        output[0] = read.number;
+        return 1;
+    }
+    let t = read.table;
+    after_table(t, &input[size..], beyond, output)
 }

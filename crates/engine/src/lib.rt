@@ -16,6 +16,7 @@ use acts::waiting;
 use duties::guard;
 use duties::reasons;
 use rules::CheckAnswer;
+use rules::ClosureAnswer;
 use rules::EnabledAnswer;
 use rules::GuardedAnswer;
 use rules::HoldUpAnswer;
@@ -29,19 +30,19 @@ use rules::Table;
 ghost use mathlib.Core.Path.{_≡_};
 ghost use mathlib.Core.Bool.{cond};
 ghost use lib.ListN.{length};
+ghost use Rattle.rules.specs.Numbers.{marginInNumbers, holdUpInNumbers, checkInNumbers};
 ghost use Rattle.rules.specs.EventSet.{sizeOf, lowestOf};
 ghost use Rattle.rules.specs.Enabled.{enabledAnswer};
 ghost use Rattle.rules.specs.Time.{dueAnswer, plainTick};
 ghost use Rattle.rules.specs.Ask.{request, report};
-ghost use Rattle.rules.specs.Margin.{margin};
-ghost use Rattle.rules.specs.HoldUp.{holdUp};
+ghost use Rattle.rules.specs.Margin.{margin, toldMargin};
+ghost use Rattle.rules.specs.HoldUp.{holdUp, toldHoldUp};
 ghost use Rattle.rules.specs.Closure.{closureAnswer};
-ghost use Rattle.rules.specs.Check.{check};
+ghost use Rattle.rules.specs.Check.{check, toldCheck};
 ghost use Rattle.rules.specs.Guard.{guardedTick};
 ghost use Rattle.rules.specs.Remedy.{remedy, stretch};
 ghost use Rattle.rules.specs.Trace.{run, runAnswers, runBytes, runBytesAnswers};
-ghost use Rattle.engine.specs.Heard.{written};
-ghost use Rattle.duties.specs.Noted.{Told};
+ghost use Rattle.rules.specs.Station.{heardNumber, heardBytes, heardOutput};
 
 // How many events a set holds.
 pub fn size(set: u64) -> u32
@@ -136,7 +137,8 @@ pub fn plain_tick(t: Table, m: Marking) -> MarkingAnswer
 
 // The margin of a condition.
 pub fn margin(t: Table, m: Marking, relation: usize) -> MarginAnswer
-    ensures { λ r. ⌜ r ≡ margin t m relation ⌝ }
+    ensures answer { λ r. ⌜ r ≡ margin t m relation ⌝ }
+    ensures told { λ r. ⌜ marginInNumbers r ≡ toldMargin t m relation ⌝ }
 {
     let number = judge::then_marking(image::judge_table(t), t.events, m);
     if number == 0 {
@@ -153,7 +155,8 @@ pub fn margin(t: Table, m: Marking, relation: usize) -> MarginAnswer
 
 // What holds an event up.
 pub fn hold_up(t: Table, m: Marking, event: usize) -> HoldUpAnswer
-    ensures { λ r. ⌜ r ≡ holdUp t m event ⌝ }
+    ensures answer { λ r. ⌜ r ≡ holdUp t m event ⌝ }
+    ensures told { λ r. ⌜ holdUpInNumbers r ≡ toldHoldUp t m event ⌝ }
 {
     let judged = judge::then_marking(image::judge_table(t), t.events, m);
     let number = judge::then_event(judged, t.events, event);
@@ -163,8 +166,8 @@ pub fn hold_up(t: Table, m: Marking, event: usize) -> HoldUpAnswer
     HoldUpAnswer::Refused(number)
 }
 
-// The closure, also where the check rejects.
-pub fn closure(t: Table, m: Marking) -> SetAnswer
+// The closure and its size, also where the check rejects.
+pub fn closure(t: Table, m: Marking) -> ClosureAnswer
     ensures { λ r. ⌜ r ≡ closureAnswer t m ⌝ }
 {
     let number = judge::then_marking(image::judge_table(t), t.events, m);
@@ -176,14 +179,24 @@ pub fn closure(t: Table, m: Marking) -> SetAnswer
         derived::derived(t, &mut rows, &mut links);
         laid::lay(m, &mut sets, &mut columns);
         let set = reasons::closure(&rows, &sets, t.events);
-        return SetAnswer { number: 0, set };
+        let size = event_set::size(set);
+        return ClosureAnswer {
+            number: 0,
+            set,
+            size,
+        };
     }
-    SetAnswer { number, set: 0 }
+    ClosureAnswer {
+        number,
+        set: 0,
+        size: 0,
+    }
 }
 
 // The static check.
 pub fn check(t: Table, m: Marking) -> CheckAnswer
-    ensures { λ r. ⌜ r ≡ check t m ⌝ }
+    ensures answer { λ r. ⌜ r ≡ check t m ⌝ }
+    ensures told { λ r. ⌜ checkInNumbers r ≡ toldCheck t m ⌝ }
 {
     let number = judge::then_marking(image::judge_table(t), t.events, m);
     if number == 0 {
@@ -252,7 +265,8 @@ pub fn remedies<'a>(
     number: &mut u8,
 ) -> &'a [u8]
     ensures stretch { λ r. ⌜ now r ≡ stretch (remedy t m (now (preferred .entry)) (now (fallback .entry))) (now (preferred .entry)) (now (fallback .entry)) ⌝ }
-    ensures own { λ r. ⌜ r .ptr ≡ cond (remedy t m (now (preferred .entry)) (now (fallback .entry)) .fallback) (fallback .entry .ptr) (preferred .entry .ptr) ⌝ }
+    ensures own { λ r. ⌜ r .ptr ≡ cond (remedy t m (now (preferred .entry)) (now (fallback .entry)) .fallback) (fallback .entry .ptr)
+        (preferred .entry .ptr) ⌝ }
     ensures number { λ _. ⌜ now (number .exit) ≡ remedy t m (now (preferred .entry)) (now (fallback .entry)) .number ⌝ }
 {
     let refusal = judge::then_marking(image::judge_table(t), t.events, m);
@@ -319,7 +333,8 @@ pub fn run_bytes(t: Table, m: Marking, steps: &[u8], answers: &mut [u8]) -> Mark
 
 // The same of a lent list of steps.
 pub fn run(t: Table, m: Marking, steps: &[Step], answers: &mut [u8]) -> MarkingAnswer
-    ensures { λ r. ⌜ (r ≡ run t m (now (steps .entry)) (length (now (answers .entry)))) × (now (answers .exit) ≡ runAnswers t m (now (steps .entry)) (now (answers .entry))) ⌝ }
+    ensures { λ r. ⌜ (r ≡ run t m (now (steps .entry)) (length (now (answers .entry))))
+        × (now (answers .exit) ≡ runAnswers t m (now (steps .entry)) (now (answers .entry))) ⌝ }
 {
     let mut state = trace::begun(t, m, steps.len(), answers.len());
     let words = trace::words_for(t, state.number);
@@ -341,20 +356,26 @@ pub const LONGEST_INPUT: usize = heard::LONGEST_INPUT;
 // What it lends for the output.
 pub const LONGEST_OUTPUT: usize = heard::LONGEST_OUTPUT;
 
+// The first `count` bytes of the output are what the station writes; a refusal writes nothing. It is declared here and not with the other
+// answers, since the station names the engine alone.
+pub struct StationAnswer {
+    pub number: u8,
+    pub count: usize,
+}
+
 // What the station program writes for its whole input, of which the first bytes are kept and so many came after them. It is written to the
-// start of the output; the answer is how many bytes that are. See specs/Heard for what is asked of a caller.
-pub fn station(input: &[u8], beyond: usize, output: &mut [u8]) -> usize
-    ensures { λ r. ⌜ Told (written (now (input .entry)) beyond (length (now (output .entry)))) (now (output .entry)) r (now (output .exit)) ⌝ }
+// start of the output. 14 where the output is shorter than the longest, or where bytes come after fewer kept ones than the longest input has.
+pub fn station(input: &[u8], beyond: usize, output: &mut [u8]) -> StationAnswer
+    ensures answer { λ r. ⌜ r ≡ record {
+      number = heardNumber (length (now (input .entry))) beyond (length (now (output .entry)));
+      count = length (heardBytes (now (input .entry)) beyond (length (now (output .entry))));
+    } ⌝ }
+    ensures output { λ _. ⌜ now (output .exit) ≡ heardOutput (now (input .entry)) beyond (now (output .entry)) ⌝ }
 {
-    if heard::misused(input.len(), beyond, output.len()) {
-        return 0;
+    let number = heard::number(input.len(), beyond, output.len());
+    if number == 0 {
+        let count = heard::whole(input, beyond, output);
+        return StationAnswer { number: 0, count };
     }
-    let size = heard::table_part(input);
-    let read = image::read_table(&input[..size]);
-    if read.number != 0 {
-        output[0] = read.number;
-        return 1;
-    }
-    let t = read.table;
-    heard::after_table(t, &input[size..], beyond, output)
+    StationAnswer { number, count: 0 }
 }

@@ -16,8 +16,8 @@ ghost use Rattle.rules.specs.declared.Marking.{Marking};
 ghost use Rattle.rules.specs.declared.Table.{Table};
 ghost use Rattle.rules.specs.Judge.{judged};
 ghost use Rattle.rules.specs.Time.{anyDue};
-ghost use Rattle.rules.specs.Laws.Judge.{GoodTable};
-ghost use Rattle.rules.specs.Laws.Remedy.{mayCause};
+ghost use Rattle.rules.specs.Shapes.Good.{GoodTable};
+ghost use Rattle.rules.specs.Shapes.Tried.{mayCause};
 ghost use Rattle.acts.specs.Derived.{headOf, Derived, Linked};
 ghost use Rattle.acts.specs.Stands.{Stands};
 ghost use Rattle.engine.specs.Trial.{Tried};
@@ -32,7 +32,8 @@ fn may_cause(
     e: usize,
 ) -> bool
     requires { ⌜ (head .events ≤ 64) × (length (now rows) ≡ 640) × (length (now links) ≡ 256) ⌝ }
-    ensures { λ r. ⌜ ((t : Table) (tail : List Record) (m : Marking) → GoodTable t → Derived t (t .count) (now (rows .entry)) → Linked t (t .count) (now (rows .entry)) (now (links .entry))
+    ensures { λ r. ⌜ ((t : Table) (tail : List Record) (m : Marking) → GoodTable t → Derived t (t .count) (now (rows .entry))
+        → Linked t (t .count) (now (rows .entry)) (now (links .entry))
         → head ≡ headOf t → Stands (t .events) tail 0 (now (sets .entry)) (now (columns .entry)) m → r ≡ mayCause t m e) ⌝ }
     ensures { λ r. ⌜ (r ≡ true → e < head .events) ⌝ }
 {
@@ -54,7 +55,8 @@ fn goes_on(
     e: usize,
 ) -> bool
     requires { ⌜ (0 < head .events) × (head .events ≤ 64) × (length (now rows) ≡ 640) × (length (now links) ≡ 256) ⌝ }
-    ensures { λ r. ⌜ ((t : Table) (tail : List Record) (m : Marking) → GoodTable t → Derived t (t .count) (now (rows .entry)) → Linked t (t .count) (now (rows .entry)) (now (links .entry))
+    ensures { λ r. ⌜ ((t : Table) (tail : List Record) (m : Marking) → GoodTable t → Derived t (t .count) (now (rows .entry))
+        → Linked t (t .count) (now (rows .entry)) (now (links .entry))
         → head ≡ headOf t → Stands (t .events) tail 0 (now (sets .entry)) (now (columns .entry)) m → r ≡ (anyDue m && mayCause t m e)) ⌝ }
     ensures { λ r. ⌜ (r ≡ true → e < head .events) ⌝ }
 {
@@ -75,7 +77,8 @@ pub fn tried(
 ) -> usize
     requires { ⌜ (0 < head .events) × (head .events ≤ 64) × (length (now rows) ≡ 640) × (length (now links) ≡ 256) ⌝ }
     ensures { λ r. ⌜ r ≤ length (now (list .entry)) ⌝ }
-    ensures { λ r. ⌜ ((t : Table) (tail : List Record) (m : Marking) → judged t m ≡ 0 → Derived t (t .count) (now (rows .entry)) → Linked t (t .count) (now (rows .entry)) (now (links .entry))
+    ensures { λ r. ⌜ ((t : Table) (tail : List Record) (m : Marking) → judged t m ≡ 0 → Derived t (t .count) (now (rows .entry))
+        → Linked t (t .count) (now (rows .entry)) (now (links .entry))
         → head ≡ headOf t → Stands (t .events) tail 0 (now (sets .entry)) (now (columns .entry)) m
         → (after : Marking) × Stands (t .events) tail 0 (now (sets .exit)) (now (columns .exit)) after × Tried t m (now (list .entry)) r after) ⌝ }
 {

@@ -16,7 +16,7 @@ ghost use lib.ListN.{length, drop};
 ghost use Rattle.rules.specs.Numbers.{_if_, _else_};
 ghost use Rattle.rules.specs.Judge.{judged};
 ghost use Rattle.rules.specs.Trace.{mostSteps, endOf, answersOf, traceNumber, stepsIn};
-ghost use Rattle.rules.specs.Laws.Judge.{GoodTable};
+ghost use Rattle.rules.specs.Shapes.Good.{GoodTable};
 ghost use Rattle.acts.specs.Derived.{Derived, Linked};
 ghost use Rattle.engine.specs.Running.{begunRun, furtherRun, Fit};
 

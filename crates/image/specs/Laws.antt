@@ -1,7 +1,5 @@
--- What follows from the definitions of the images, by what it is about: words, records, parts, writing, tables, and both ways round.
-pub mod Words
-pub mod Records
+-- What follows from the definitions of the images, by what it is about: words, parts, tables, and both ways round.
+pub mod Packed
 pub mod Parts
-pub mod Written
 pub mod Tables
 pub mod Round

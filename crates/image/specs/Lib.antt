@@ -1,5 +1,5 @@
 -- What the inner functions answer for: the fields as parts of a word, and the definitions of the readers cut where the functions are.
-pub mod Words
+pub mod Packed
 pub mod Parts
 -- What follows from them and from the definitions of the images.
 pub mod Laws

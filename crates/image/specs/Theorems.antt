@@ -14,12 +14,13 @@ use Rattle.rules.specs.Counting.{places}
 use Rattle.rules.specs.Numbers.{_if_, firstOf}
 use Rattle.rules.specs.Holds.{mostEvents, mostRelations, recordOf, relationOf, emptyRecord, emptyRelation}
 use Rattle.rules.specs.Judge.{eventsFit, relationsFit, relationNumber, recordFits, markingNumber, markingNumberFor, tableNumber}
-use Rattle.rules.specs.Image.{eventsIn, relationsIn, headerSpare, tableLength, relationAt, relationBit, relationSpare, relationImageNumber, tableImageNumber, tableIn, readTable, markingFrom, recordBytes, markingImage, recordAt, recordBit, readMarking, writeNumber, writeMarking, fresh, freshRecord}
+use Rattle.rules.specs.Image.{eventsIn, relationsIn, headerSpare, tableLength, relationAt, relationBit, relationSpare, relationImageNumber, tableImageNumber}
+use Rattle.rules.specs.Image.{tableIn, readTable, markingFrom, recordBytes, markingImage, recordAt, recordBit, readMarking, writeNumber, writeMarking, fresh}
+use Rattle.rules.specs.Image.{freshRecord}
 use Rattle.rules.specs.Laws.Counting.{length-places, places-at}
 use Rattle.rules.specs.Laws.Numbers.{if-done, both-done, first-each, first-done}
+use Rattle.rules.specs.Laws.Written.{image-length, number-done, bytes-kept, bytes-written}
 use Rattle.image.specs.Parts.{classNumber}
-use Rattle.image.specs.Laws.Records.{image-length}
-use Rattle.image.specs.Laws.Written.{number-done, bytes-kept, bytes-written}
 use Rattle.image.specs.Laws.Round.{places-same, from-done, from-done-for, readable, readable-number, reads-as, images-back, record-again, image-readable}
 
 -- A marking that is read is accepted by the judge.
@@ -29,6 +30,11 @@ unfolding readMarking
 read-marking-accepted events image h =
     let r = readable events image h in
     rw h (from-done-for events (λ e. recordAt image (recordBit e)) (r .fit) (r .done))
+
+-- A marking image that is read has its bytes for each event, and no more.
+pub read-marking-exact : (events : ℕ) (image : List ℕ) → readMarking events image .number ≡ 0 → length image ≡ recordBytes * events
+unfolding readMarking
+read-marking-exact events image h = readable events image h .exact
 
 -- A fresh marking is accepted by the judge.
 pub fresh-accepted : (events : ℕ) → fresh events .number ≡ 0 → markingNumberFor events (fresh events .marking) ≡ 0

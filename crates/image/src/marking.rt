@@ -11,7 +11,7 @@ ghost use lib.ListN.{length, drop};
 ghost use Rattle.rules.specs.Holds.{mostEvents};
 ghost use Rattle.rules.specs.Judge.{recordNumber, markingNumber};
 ghost use Rattle.rules.specs.Image.{recordBytes, markingImage};
-ghost use Rattle.image.specs.Words.{recordOfWord, wordOfRecord};
+ghost use Rattle.image.specs.Packed.{recordOfWord, wordOfRecord};
 ghost use Rattle.image.specs.Parts.{recordsRead};
 
 // The record that its bytes hold as a number.

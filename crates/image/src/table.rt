@@ -10,7 +10,7 @@ ghost use Prim.Native.Nat.{_+_, _*_, _^_, _≤_, _<_};
 ghost use lib.ListN.{length};
 ghost use Rattle.rules.specs.Holds.{mostEvents, mostRelations, emptyTable};
 ghost use Rattle.rules.specs.Image.{tableLength};
-ghost use Rattle.image.specs.Words.{relationOfWord};
+ghost use Rattle.image.specs.Packed.{relationOfWord};
 ghost use Rattle.image.specs.Parts.{classesRead, relationsRead};
 
 // The events of each class, or the number of a spare bit.

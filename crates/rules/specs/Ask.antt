@@ -1,5 +1,5 @@
 -- Request is for a controllable event, report for an uncontrollable one; each executes it if enabled.
-use mathlib.Core.Bool.{Bool, not}
+use mathlib.Core.Bool.{not}
 use Prim.Native.Nat.{ℕ}
 use Rattle.rules.specs.declared.Table.{Table}
 use Rattle.rules.specs.declared.Marking.{Marking}

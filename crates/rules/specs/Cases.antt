@@ -1,4 +1,4 @@
--- Document 01's worked cases, those marked (P), a case for each of its 'Mistakes that look reasonable', and cases that a promise turns on, by
+-- The worked cases of docs/RULES.md, a case for each mistake that looks reasonable, and cases that a promise turns on, by
 -- one statement over a table of cases: each answer is computed from the definitions and is the one that the paper tells. Assumes nothing.
 use mathlib.Core.Path.{_≡_, refl}
 use mathlib.Core.Bool.{Bool, true, false, cond}
@@ -14,35 +14,41 @@ use Rattle.rules.specs.declared.Step.{Step}
 use Rattle.rules.specs.declared.MarkingAnswer.{MarkingAnswer}
 use Rattle.rules.specs.declared.EnabledAnswer.{EnabledAnswer}
 use Rattle.rules.specs.declared.SetAnswer.{SetAnswer}
+use Rattle.rules.specs.declared.ClosureAnswer.{ClosureAnswer}
 use Rattle.rules.specs.declared.MarginAnswer.{MarginAnswer}
 use Rattle.rules.specs.declared.MarginAnswer.the-variants.{NotACondition, Never, By}
 use Rattle.rules.specs.declared.HoldUpAnswer.{HoldUpAnswer}
 use Rattle.rules.specs.declared.HoldUpAnswer.the-variants.{Excluded, Blocked}
 use Rattle.rules.specs.declared.CheckAnswer.{CheckAnswer}
 use Rattle.rules.specs.declared.CheckAnswer.the-variants.{Accepts, Rejects}
+use Rattle.rules.specs.declared.ToldMargin.{ToldMargin}
+use Rattle.rules.specs.declared.ToldHoldUp.{ToldHoldUp}
+use Rattle.rules.specs.declared.ToldCheck.{ToldCheck}
 use Rattle.rules.specs.declared.GuardedAnswer.{GuardedAnswer}
 use Rattle.rules.specs.declared.RemedyAnswer.{RemedyAnswer}
 use Rattle.rules.specs.Counting.{every, some, lowest, howMany, repeated, placesFrom, belowFrom}
 use Rattle.rules.specs.Numbers.{firstOf}
 use Rattle.rules.specs.EventSet.{has, setOf, sizeOf, lowestOf}
-use Rattle.rules.specs.Holds.{emptyRecord, emptyMarking, recordOf}
+use Rattle.rules.specs.Holds.{emptyMarking, recordOf}
 use Rattle.rules.specs.Fields.{field, bytesOf}
 use Rattle.rules.specs.Pieces.{pieces}
 use Rattle.rules.specs.Judge.{timeFits, relationNumber, tableNumber, recordFits, markingNumber, markingNumberFor, judged}
-use Rattle.rules.specs.Image.{relationAt, relationImageNumber, tableImageNumber, tableIn, readTable, recordAt, markingImageNumber, readMarking, recordImage, markingImage, writeNumber, writeMarking, fresh}
+use Rattle.rules.specs.Image.{relationAt, relationImageNumber, tableImageNumber, tableIn, readTable, recordAt, markingImageNumber, readMarking}
+use Rattle.rules.specs.Image.{recordImage, writeNumber, writeMarking, fresh}
 use Rattle.rules.specs.Enabled.{stops, blocks, isEnabled, enabledAnswer}
 use Rattle.rules.specs.Effect.{withDeadline, excludes, includes, given, smallest, executed, withInclusion, effectAt, effect}
 use Rattle.rules.specs.Time.{isDue, anyDue, dueSet, later, time, plainTickNumber, plainTick, dueAnswer}
 use Rattle.rules.specs.Ask.{requestNumber, reportNumber, request, report}
-use Rattle.rules.specs.Margin.{marginOf, margin}
-use Rattle.rules.specs.HoldUp.{holdUpOf, holdUp}
+use Rattle.rules.specs.Margin.{marginOf, margin, toldMargin}
+use Rattle.rules.specs.HoldUp.{holdUpOf, holdUp, toldHoldUp}
 use Rattle.rules.specs.Closure.{busy, follows, widened, widenedFully, closure, closureAnswer}
-use Rattle.rules.specs.Check.{unreportable, uncausable, waiting, awaited, onCycle, reopening, reviving, verdict, check}
+use Rattle.rules.specs.Check.{unreportable, uncausable, waiting, awaited, onCycle, reopening, reviving, verdict, check, reasonOf, placeOf, toldCheck}
 use Rattle.rules.specs.Guard.{holdsBack, needed, ready, orderOf, taken, takenAll, executedOf, caused, guarded, guardedTick}
 use Rattle.rules.specs.Remedy.{inTurn, effects, discharges, shortest, remedyNumber, remedy}
 use Rattle.rules.specs.Trace.{guardedTickKind, stepNumber, stepDone, stepped, endOf, answersOf, traceNumber, run, runAnswers}
 use Rattle.rules.specs.Trace.{stepsIn, runBytes, runBytesAnswers}
-use Rattle.rules.specs.Station.{station}
+use Rattle.rules.specs.Station.{station, longestOutput, heardNumber, heardBytes, heardOutput}
+use Rattle.rules.specs.Images.{tableOf, markingOf, imagesNumber, fieldsNumber, fieldsTold}
 use Rattle.rules.specs.Shop as shop
 
 -- A case: what is asked, of a table and of the marking after some steps from another, and what the paper tells.
@@ -73,11 +79,18 @@ pub data Question : Type 0 where
   runBuffer : List ℕ → List ℕ → Question
   stepsOf : List Step → ℕ → Question
   stepsBuffer : List Step → List ℕ → Question
-  heard : List ℕ → Question
+  stationOf : List ℕ → Question
+  stationNumber : List ℕ → ℕ → ℕ → Question
+  stationBuffer : List ℕ → ℕ → List ℕ → Question
+  marginTold : ℕ → Question
+  holdUpTold : ℕ → Question
+  checkTold : Question
+  recordTold : List ℕ → List ℕ → ℕ → List ℕ → Question
 
 pub data Answer : Type 0 where
   verdicts : CheckAnswer → Answer
   set : SetAnswer → Answer
+  closes : ClosureAnswer → Answer
   number : ℕ → Answer
   hold : HoldUpAnswer → Answer
   passed : GuardedAnswer → Answer
@@ -88,6 +101,9 @@ pub data Answer : Type 0 where
   events : List ℕ → Answer
   marks : MarkingAnswer → Answer
   enables : EnabledAnswer → Answer
+  toldBy : ToldMargin → Answer
+  toldHold : ToldHoldUp → Answer
+  toldVerdict : ToldCheck → Answer
 
 pub record Case : Type 0 where
   pub table : Table
@@ -102,7 +118,7 @@ causedIn t m (s ∷ rest) = cond (eqb (s .kind) guardedTickKind) (caused t m) []
 
 unfoldable pub answer : Table → Marking → Question → Answer
 answer t m checked = verdicts (check t m)
-answer t m closed = set (closureAnswer t m)
+answer t m closed = closes (closureAnswer t m)
 answer t m (requested e) = number (request t m e .number)
 answer t m (held e) = hold (holdUp t m e)
 answer t m ticked = number (plainTick t m .number)
@@ -127,7 +143,13 @@ answer t m (runOf steps room) = marks (runBytes t m steps room)
 answer t m (runBuffer steps buffer) = bytes (runBytesAnswers t m steps buffer)
 answer t m (stepsOf steps room) = marks (run t m steps room)
 answer t m (stepsBuffer steps buffer) = bytes (runAnswers t m steps buffer)
-answer t m (heard input) = bytes (station input)
+answer t m (stationOf input) = bytes (station input)
+answer t m (stationNumber kept beyond room) = number (heardNumber (length kept) beyond room)
+answer t m (stationBuffer kept beyond output) = bytes (heardOutput kept beyond output)
+answer t m (marginTold k) = toldBy (toldMargin t m k)
+answer t m (holdUpTold e) = toldHold (toldHoldUp t m e)
+answer t m checkTold = toldVerdict (toldCheck t m)
+answer t m (recordTold table marking e places) = bytes (fieldsTold table marking e places)
 
 abbrev asks : Table → Marking → Question → Answer → Case
 asks t m q a = record { table = t; marking = m; asked = q; told = a }
@@ -139,6 +161,9 @@ after steps = asks shop.P (endOf shop.P shop.start steps)
 abbrev setIs : ℕ → Answer
 setIs w = set (record { number = 0; set = w })
 
+abbrev closureIs : ℕ → ℕ → Answer
+closureIs w size = closes (record { number = 0; set = w; size = size })
+
 abbrev remedyIs : ℕ → Bool → ℕ → Answer
 remedyIs n second l = remedies (record { number = n; fallback = second; length = l })
 
@@ -149,7 +174,7 @@ unfoldable pub worked : List Case
 worked =
     -- P is accepted; closure {1, 2, 4}
     after [] checked (verdicts Accepts)
-    ∷ after [] closed (setIs (2 ^ 1 + 2 ^ 2 + 2 ^ 4))
+    ∷ after [] closed (closureIs (2 ^ 1 + 2 ^ 2 + 2 ^ 4) 3)
     -- after leak, request flush: 10, hold-up relation 1
     ∷ after (shop.leak ∷ []) (requested 1) (number 10)
     ∷ after (shop.leak ∷ []) (held 1) (hold (Blocked 1))
@@ -157,7 +182,8 @@ worked =
     ∷ after [] (causedAlong shop.leakThenThree) (events [])
     ∷ after shop.leakThenThree (state 1) (is (shop.pendingWithin true 0))
     ∷ after shop.leakThenThree ticked (number 11)
-    ∷ after shop.leakThenThree guardedly (causes (2 ∷ 4 ∷ 1 ∷ []) (shop.marking (shop.happened 4 ∷ shop.happened 1 ∷ shop.happened 1 ∷ shop.idle ∷ shop.happened 1 ∷ [])))
+    ∷ after shop.leakThenThree guardedly
+    (causes (2 ∷ 4 ∷ 1 ∷ []) (shop.marking (shop.happened 4 ∷ shop.happened 1 ∷ shop.happened 1 ∷ shop.idle ∷ shop.happened 1 ∷ [])))
     -- there, preferred 1, 2, 4 and fallback 4, 2, 1, 2: the first three of the fallback
     ∷ after shop.leakThenThree (offered (1 ∷ 2 ∷ 4 ∷ []) (4 ∷ 2 ∷ 1 ∷ 2 ∷ [])) (remedyIs 0 true 3)
     -- there, both lists holding only 4: 13
@@ -187,7 +213,8 @@ worked =
     ∷ asks shop.waits5 (shop.marking (shop.idle ∷ shop.happened 9 ∷ [])) (margins 0) (by (By (pos 4)))
     -- the hex table and marking: a guarded tick causes 0; event 0 then reads 80 00 00 03 C0 00 00 00
     ∷ asks (readTable shop.hexTable .table) (readMarking 2 shop.hexMarking .marking) (causedAlong (shop.guarded ∷ [])) (events (0 ∷ []))
-    ∷ asks (readTable shop.hexTable .table) (endOf (readTable shop.hexTable .table) (readMarking 2 shop.hexMarking .marking) (shop.guarded ∷ [])) (stateBytes 0) (bytes shop.hexRecord)
+    ∷ asks (readTable shop.hexTable .table) (endOf (readTable shop.hexTable .table) (readMarking 2 shop.hexMarking .marking) (shop.guarded ∷ []))
+    (stateBytes 0) (bytes shop.hexRecord)
     ∷ []
 
 unfoldable pub mistakes : List Case
@@ -196,7 +223,8 @@ mistakes =
     after shop.leakThenThree (offered (2 ∷ 1 ∷ []) (4 ∷ 1 ∷ [])) (remedyIs 13 false 0)
     -- Letting an excluded event at deadline 0 stop time, or halting its countdown
     ∷ asks shop.waits5 (shop.marking (shop.pendingWithin false 0 ∷ shop.idle ∷ [])) ticked (number 0)
-    ∷ asks shop.waits5 (endOf shop.waits5 (shop.marking (shop.pendingWithin false 2 ∷ shop.idle ∷ [])) (shop.plain ∷ [])) (state 0) (is (shop.pendingWithin false 1))
+    ∷ asks shop.waits5 (endOf shop.waits5 (shop.marking (shop.pendingWithin false 2 ∷ shop.idle ∷ [])) (shop.plain ∷ [])) (state 0)
+    (is (shop.pendingWithin false 1))
     -- Applying effects before clearing e, which loses a self-response
     ∷ asks selfResponse (endOf selfResponse (shop.marking (shop.idle ∷ [])) (shop.request 0 ∷ [])) (state 0)
     (is (record { age = 0; deadline = 3; happened = true; included = true; pending = true; bounded = true }))
@@ -206,6 +234,10 @@ mistakes =
     ∷ asks rivals bothDue (causedAlong (shop.guarded ∷ [])) (events (0 ∷ []))
     -- Judging the needed set later than at the start: 2 is executed though 1, which needed it, has been excluded
     ∷ asks stillNeeded bothDueOneIdle (causedAlong (shop.guarded ∷ [])) (events (0 ∷ 2 ∷ []))
+    -- .. and 1, for which 0 waits, is needed though 0 will exclude it
+    ∷ asks excludesItsWait oneDue (causedAlong (shop.guarded ∷ [])) (events (1 ∷ 0 ∷ []))
+    -- Executing it all the same because it has happened before
+    ∷ asks rivals bothDueOneHappened (causedAlong (shop.guarded ∷ [])) (events (0 ∷ []))
     ∷ []
   where
     selfResponse : Table
@@ -216,6 +248,16 @@ mistakes =
 
     bothDue : Marking
     bothDue = shop.marking (shop.pendingWithin true 0 ∷ shop.pendingWithin true 0 ∷ [])
+
+    bothDueOneHappened : Marking
+    bothDueOneHappened = shop.marking
+        (shop.pendingWithin true 0 ∷ record { age = 5; deadline = 0; happened = true; included = true; pending = true; bounded = true } ∷ [])
+
+    excludesItsWait : Table
+    excludesItsWait = shop.table 2 3 3 (shop.condition 0 1 0 ∷ shop.excludes 0 1 ∷ [])
+
+    oneDue : Marking
+    oneDue = shop.marking (shop.pendingWithin true 0 ∷ shop.idle ∷ [])
 
     stillNeeded : Table
     stillNeeded = shop.table 3 7 7 (shop.excludes 0 1 ∷ shop.condition 1 2 0 ∷ [])
@@ -260,7 +302,9 @@ turning =
     -- hold_up: excluded, though also blocked. Not blocked by relation 1
     ∷ after [] (held 1) (hold Excluded)
     -- closure: an excluded event with a deadline is busy; an eventual response makes none busy. Not left out; not event 1
-    ∷ asks (shop.table 2 3 3 (shop.eventually 0 1 ∷ [])) (shop.marking (shop.pendingWithin false 5 ∷ shop.idle ∷ [])) closed (setIs 1)
+    ∷ asks (shop.table 2 3 3 (shop.eventually 0 1 ∷ [])) (shop.marking (shop.pendingWithin false 5 ∷ shop.idle ∷ [])) closed (closureIs 1 1)
+    -- and the size of none in a refusal. Not the events of the table
+    ∷ asks (shop.table 0 0 0 []) shop.start closed (closes (record { number = 3; set = 0; size = 0 }))
     -- check: the lowest reason, not a later one that also applies; the lowest event ON a cycle, not one that only leads into it
     ∷ asks (shop.table 2 2 0 (shop.excludes 0 0 ∷ shop.response 1 1 1 ∷ [])) (shop.marking (shop.idle ∷ shop.idle ∷ [])) checked (verdicts (Rejects 1 0))
     ∷ asks intoCycle (shop.marking (shop.pendingWithin true 5 ∷ shop.idle ∷ shop.idle ∷ [])) checked (verdicts (Rejects 4 1))
@@ -272,12 +316,31 @@ turning =
     ∷ after [] (stepsOf (shop.request 1 ∷ []) 1) (marks (refusal 0 shop.start))
     ∷ after [] (stepsBuffer (shop.leak ∷ shop.request 1 ∷ []) (7 ∷ [])) (bytes (7 ∷ []))
     ∷ after [] (stepsBuffer (shop.leak ∷ shop.request 1 ∷ []) (7 ∷ 7 ∷ 7 ∷ [])) (bytes (0 ∷ 10 ∷ 7 ∷ []))
+    -- in numbers: the ticks of a margin, and none for never; the relation of a hold-up; 12 with reason and place. Not the case alone
+    ∷ asks shop.waits5 (shop.marking (shop.idle ∷ shop.happened 3 ∷ [])) (marginTold 0) (toldBy (record { number = 0; kind = 3; ticks = negsuc 1 }))
+    ∷ asks shop.waits5 (shop.marking (shop.idle ∷ shop.idle ∷ [])) (marginTold 0) (toldBy (record { number = 0; kind = 2; ticks = pos 0 }))
+    ∷ after (shop.leak ∷ []) (holdUpTold 1) (toldHold (record { number = 0; kind = 2; relation = 1 }))
+    ∷ asks shop.P-timed shop.start checkTold (toldVerdict (record { number = 12; reason = 3; place = 1 }))
+    -- a record's fields in the image's order, and a later place stays; 8 before 14, and nothing is written. Not age first; not a first field
+    ∷ after [] (recordTold shop.hexTable shop.hexMarking 0 (replicate 7 9)) (bytes (0 ∷ 0 ∷ 1 ∷ 1 ∷ 1 ∷ 0 ∷ 9 ∷ []))
+    ∷ after [] (recordTold shop.hexTable (shop.hexRecord ++ replicate 8 0) 0 (replicate 6 9)) (bytes (1 ∷ 1 ∷ 1 ∷ 1 ∷ 1 ∷ 0 ∷ []))
+    ∷ after [] (recordTold shop.hexTable shop.hexMarking 1 (9 ∷ [])) (bytes (9 ∷ []))
     -- station: an empty input is too short for a table. Not nothing
-    ∷ after [] (heard []) (bytes (1 ∷ []))
+    ∷ after [] (stationOf []) (bytes (1 ∷ []))
+    -- the call: 14 for an output that could be too short, and for bytes after too few; then nothing is written. Not 0, nor a first byte
+    ∷ after [] (stationNumber [] 0 (longestOutput - 1)) (number 14)
+    ∷ after [] (stationNumber [] 1 longestOutput) (number 14)
+    ∷ after [] (stationBuffer [] 0 (9 ∷ 9 ∷ [])) (bytes (9 ∷ 9 ∷ []))
+    -- a grant: the hex case, one guarded tick, 17 bytes; a later byte stays
+    ∷ after [] (stationNumber hexInput 0 longestOutput) (number 0)
+    ∷ after [] (stationBuffer hexInput 0 (replicate longestOutput 9)) (bytes ((0 ∷ shop.hexRecord) ++ replicate 8 0 ++ replicate (longestOutput - 17) 9))
     ∷ []
   where
     refusal : ℕ → Marking → MarkingAnswer
     refusal n m = record { number = n; marking = m }
+
+    hexInput : List ℕ
+    hexInput = shop.hexTable ++ shop.hexMarking ++ (3 ∷ 0 ∷ [])
 
     unbound : Record
     unbound = record { age = 0; deadline = 4; happened = false; included = true; pending = true; bounded = false }
@@ -293,5 +356,5 @@ cases = worked ++ mistakes ++ turning
 
 -- every case is answered as told
 pub told-right : map (λ c. answer (c .table) (c .marking) (c .asked)) cases ≡ map (λ c. c .told) cases
-unfolding cases worked mistakes turning answer causedIn every some lowest howMany repeated placesFrom belowFrom firstOf has setOf sizeOf lowestOf field bytesOf timeFits relationNumber tableNumber recordFits markingNumber markingNumberFor judged relationAt relationImageNumber tableImageNumber tableIn readTable recordAt markingImageNumber readMarking recordImage pieces stops blocks isEnabled withDeadline excludes includes given smallest executed withInclusion effectAt effect isDue anyDue dueSet later time plainTickNumber plainTick requestNumber reportNumber request marginOf margin holdUpOf holdUp busy follows widened widenedFully closure closureAnswer unreportable uncausable waiting awaited onCycle reopening reviving verdict check holdsBack needed ready orderOf taken takenAll executedOf caused guarded guardedTick inTurn effects discharges shortest remedyNumber remedy stepNumber stepDone stepped endOf answersOf traceNumber stepsIn station writeNumber writeMarking fresh enabledAnswer dueAnswer report run runAnswers runBytes runBytesAnswers
+unfolding cases worked mistakes turning answer causedIn every some lowest howMany repeated placesFrom belowFrom firstOf has setOf sizeOf lowestOf field bytesOf timeFits relationNumber tableNumber recordFits markingNumber markingNumberFor judged relationAt relationImageNumber tableImageNumber tableIn readTable recordAt markingImageNumber readMarking recordImage pieces stops blocks isEnabled withDeadline excludes includes given smallest executed withInclusion effectAt effect isDue anyDue dueSet later time plainTickNumber plainTick requestNumber reportNumber request marginOf margin holdUpOf holdUp busy follows widened widenedFully closure closureAnswer unreportable uncausable waiting awaited onCycle reopening reviving verdict check holdsBack needed ready orderOf taken takenAll executedOf caused guarded guardedTick inTurn effects discharges shortest remedyNumber remedy stepNumber stepDone stepped endOf answersOf traceNumber stepsIn station writeNumber writeMarking fresh enabledAnswer dueAnswer report run runAnswers runBytes runBytesAnswers toldMargin toldHoldUp reasonOf placeOf toldCheck tableOf markingOf imagesNumber fieldsNumber fieldsTold heardNumber heardBytes heardOutput
 told-right = refl

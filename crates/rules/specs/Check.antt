@@ -6,8 +6,9 @@ use Rattle.rules.specs.declared.Table.{Table}
 use Rattle.rules.specs.declared.Marking.{Marking}
 use Rattle.rules.specs.declared.CheckAnswer.{CheckAnswer}
 use Rattle.rules.specs.declared.CheckAnswer.the-variants.{Refused, Accepts, Rejects}
+use Rattle.rules.specs.declared.ToldCheck.{ToldCheck}
 use Rattle.rules.specs.Counting.{some, lowest}
-use Rattle.rules.specs.Numbers.{done}
+use Rattle.rules.specs.Numbers.{_if_, _else_, done}
 use Rattle.rules.specs.EventSet.{has, setOf}
 use Rattle.rules.specs.Holds.{isCondition, isResponse, isInclusion, isExclusion, isMilestone, isControllable, isCausable, relationOf, recordOf}
 use Rattle.rules.specs.Judge.{judged}
@@ -65,3 +66,33 @@ verdict t m =
 
 unfoldable pub check : Table → Marking → CheckAnswer
 check t m = let number = judged t m in done number (verdict t m) (Refused number)
+
+-- the same in numbers. The lowest reason that applies, 0 for none
+unfoldable pub reasonOf : Table → Marking → ℕ
+reasonOf t m =
+    let closed = closure t m in
+    1 if some (t .events) (unreportable t m)
+    else 2 if some (t .events) (uncausable t closed)
+    else 3 if some (t .count) (waiting t closed)
+    else 4 if some (t .events) (onCycle t closed)
+    else 5 if some (t .count) (reopening t closed)
+    else 6 if some (t .count) (reviving t closed)
+
+-- the lowest place of a reason
+unfoldable pub placeOf : Table → Marking → ℕ → ℕ
+placeOf t m reason =
+    let closed = closure t m in
+    cond (eqb reason 1) (lowest (t .events) (unreportable t m))
+    (cond (eqb reason 2) (lowest (t .events) (uncausable t closed))
+    (cond (eqb reason 3) (lowest (t .count) (waiting t closed))
+    (cond (eqb reason 4) (lowest (t .events) (onCycle t closed))
+    (cond (eqb reason 5) (lowest (t .count) (reopening t closed))
+    (cond (eqb reason 6) (lowest (t .count) (reviving t closed))
+    0)))))
+
+-- 12 with reason and place
+unfoldable pub toldCheck : Table → Marking → ToldCheck
+toldCheck t m =
+    let number = judged t m in
+    let reason = done number (reasonOf t m) 0 in
+    record { number = number else 12 if not (eqb reason 0); reason = reason; place = placeOf t m reason }

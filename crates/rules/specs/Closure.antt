@@ -6,10 +6,10 @@ use lib.Dec.{eqb}
 use Rattle.rules.specs.declared.Relation.{Relation}
 use Rattle.rules.specs.declared.Table.{Table}
 use Rattle.rules.specs.declared.Marking.{Marking}
-use Rattle.rules.specs.declared.SetAnswer.{SetAnswer}
+use Rattle.rules.specs.declared.ClosureAnswer.{ClosureAnswer}
 use Rattle.rules.specs.Counting.{some, repeated}
 use Rattle.rules.specs.Numbers.{done}
-use Rattle.rules.specs.EventSet.{has, setOf}
+use Rattle.rules.specs.EventSet.{has, setOf, sizeOf}
 use Rattle.rules.specs.Holds.{isCondition, isResponse, isMilestone, relationOf, recordOf}
 use Rattle.rules.specs.Judge.{judged}
 use Rattle.rules.specs.Effect.{leads}
@@ -44,6 +44,8 @@ widenedFully t along set = repeated (t .events) (widened t along) set
 unfoldable pub closure : Table → Marking → ℕ
 closure t m = widenedFully t (λ k. followed (relationOf t k)) (setOf (t .events) (busy t m))
 
--- also when the check rejects
-unfoldable pub closureAnswer : Table → Marking → SetAnswer
-closureAnswer t m = let number = judged t m in record { number = number; set = done number (closure t m) 0 }
+-- also when the check rejects; with its size
+unfoldable pub closureAnswer : Table → Marking → ClosureAnswer
+closureAnswer t m =
+    let number = judged t m in
+    record { number = number; set = done number (closure t m) 0; size = done number (sizeOf (closure t m)) 0 }

@@ -1,8 +1,8 @@
--- Words of counting that the rules are written in: every, some, the lowest, how many, again and again, a list by its places.
+-- Words of counting that the rules are written in: every, some, the lowest, how many, how often, again and again, a list by its places.
 use mathlib.Core.Bool.{Bool, true, false, _&&_, _||_, cond}
 use mathlib.Core.List.{List, [], _∷_}
 use Prim.Native.Nat.{ℕ, zero, suc, _+_}
-use lib.Dec.{ltb}
+use lib.Dec.{eqb, ltb}
 
 -- f holds at every number below n
 unfoldable pub every : ℕ → (ℕ → Bool) → Bool
@@ -23,6 +23,11 @@ lowest (suc k) f = let found = lowest k f in cond (ltb found k) found (cond (f k
 unfoldable pub howMany : ℕ → (ℕ → Bool) → ℕ
 howMany zero f = zero
 howMany (suc k) f = howMany k f + cond (f k) 1 0
+
+-- how often x is in a list
+unfoldable pub times : ℕ → List ℕ → ℕ
+times x [] = 0
+times x (e ∷ rest) = cond (eqb x e) (suc (times x rest)) (times x rest)
 
 module _ {A : Type 0} where
   -- f, n times over

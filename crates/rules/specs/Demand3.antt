@@ -1,5 +1,6 @@
--- Demand 3 as a theorem. Statements is the part to read, with Promise, History and the records of Deadline that it is written in; the others
--- lead up to it, each resting on those above it. Calls and Runner say the same to a caller; Needed and Worked are computed.
+-- Demand 3 as a theorem. Statements is the part to read, with Chain, which says the same to a caller, and Runner, to a caller of the runner. Their
+-- words are Promised, History, Deadline and Calls, beside the rules. The others lead up to them, each resting on those above it; Clauses and
+-- Worked are computed.
 pub mod Response
 pub mod Records
 pub mod Facts
@@ -7,11 +8,11 @@ pub mod Invariant
 pub mod Accepts
 pub mod Progress
 pub mod Guarded
-pub mod Promise
-pub mod History
-pub mod Deadline
+pub mod Keeping
+pub mod Leading
+pub mod Calm
 pub mod Statements
-pub mod Calls
+pub mod Chain
 pub mod Runner
-pub mod Needed
+pub mod Clauses
 pub mod Worked

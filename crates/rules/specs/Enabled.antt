@@ -1,6 +1,6 @@
 -- Enabled. The event is included; for each condition with it as left, if right is included then right has happened and its age is at least
 -- the time; for each milestone with it as left, if right is included then right is not pending. A relation to itself reads its own state.
-use mathlib.Core.Bool.{Bool, true, false, not, _&&_, _||_}
+use mathlib.Core.Bool.{Bool, false, not, _&&_, _||_}
 use Prim.Native.Nat.{ℕ}
 use lib.Dec.{eqb, leb}
 use Rattle.rules.specs.declared.Relation.{Relation}

@@ -1,5 +1,5 @@
 -- What the engine holds: the kinds of relation, the limits, empty places, and how a table and a marking are read.
-use mathlib.Core.Bool.{Bool, true, false, not}
+use mathlib.Core.Bool.{Bool, false}
 use Prim.Native.Nat.{ℕ}
 use lib.Dec.{eqb}
 use lib.ListN.{getD, replicate}

@@ -1,12 +1,11 @@
 -- Decoded values are judged as the reader would judge their image, table first; also values that no image can hold.
-use mathlib.Core.Bool.{Bool, true, false, not, _&&_, _||_, cond}
+use mathlib.Core.Bool.{Bool, true, not, _&&_, cond}
 use Prim.Native.Nat.{ℕ}
 use lib.Dec.{eqb, leb, ltb}
 use Rattle.rules.specs.declared.Relation.{Relation}
 use Rattle.rules.specs.declared.Table.{Table}
 use Rattle.rules.specs.declared.Record.{Record}
 use Rattle.rules.specs.declared.Marking.{Marking}
-use Rattle.rules.specs.Counting.{every}
 use Rattle.rules.specs.Numbers.{_if_, _else_, firstOf}
 use Rattle.rules.specs.Holds.{limit, mostEvents, mostRelations, isCondition, isResponse, relationOf, recordOf}
 

@@ -1,4 +1,4 @@
--- What must be believed: document 01, one file for one of its headings or rules, in its order.
+-- What must be believed: the rules of docs/RULES.md, one file for one of its headings, in its order; then the calls for C, over images.
 pub mod Counting
 pub mod Numbers
 pub mod EventSet
@@ -19,9 +19,18 @@ pub mod Guard
 pub mod Remedy
 pub mod Trace
 pub mod Station
--- What follows from them.
+pub mod Images
+-- The words of the statements: of numbers that are given, of unused places, of demand 3.
+pub mod Given
+pub mod Unused
+pub mod Promised
+pub mod History
+pub mod Deadline
+pub mod Calls
+-- What inner contracts cite, and what follows from all of these.
+pub mod Shapes
 pub mod Laws
 pub mod Demand3
--- Document 01's worked cases, computed.
+-- The worked cases of docs/RULES.md, computed.
 pub mod Shop
 pub mod Cases

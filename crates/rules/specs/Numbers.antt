@@ -1,15 +1,18 @@
 -- Numbers given for refusal. 0 is 'done'; a rule gives its number if it is broken, else the next rule is asked.
--- For each answer that is an enum: the paper's number and values for each of its cases.
+-- For each answer that is an enum: the paper's number and values for each of its cases; the cases counted in the paper's order.
 use mathlib.Core.Bool.{Bool, true, false, cond}
 use Prim.Native.Nat.{ℕ, zero, suc}
 use lib.Dec.{eqb}
-use lib.IntN.{ℤ}
+use lib.IntN.{pos}
 use Rattle.rules.specs.declared.MarginAnswer.{MarginAnswer}
 use Rattle.rules.specs.declared.MarginAnswer.the-variants.{Refused as refusedMargin, NotACondition, Ignored, Never, By}
+use Rattle.rules.specs.declared.ToldMargin.{ToldMargin}
 use Rattle.rules.specs.declared.HoldUpAnswer.{HoldUpAnswer}
 use Rattle.rules.specs.declared.HoldUpAnswer.the-variants.{Refused as refusedHoldUp, Enabled, Excluded, Blocked}
+use Rattle.rules.specs.declared.ToldHoldUp.{ToldHoldUp}
 use Rattle.rules.specs.declared.CheckAnswer.{CheckAnswer}
 use Rattle.rules.specs.declared.CheckAnswer.the-variants.{Refused as refusedCheck, Accepts, Rejects}
+use Rattle.rules.specs.declared.ToldCheck.{ToldCheck}
 
 infix 26 _if_
 infixr 24 _else_
@@ -33,33 +36,39 @@ module _ {A : Type 0} where
   abbrev pub done : ℕ → A → A → A
   done number a refused = cond (eqb number 0) a refused
 
--- margin: a number for a refusal; `By` has age minus time
+-- margin: 0 not a condition, 1 ignored, 2 never, 3 by age minus time; the ticks are 0 in any other case
+abbrev pub marginInNumbers : MarginAnswer → ToldMargin
+marginInNumbers (refusedMargin number) = record { number = number; kind = 0; ticks = pos 0 }
+marginInNumbers NotACondition = record { number = 0; kind = 0; ticks = pos 0 }
+marginInNumbers Ignored = record { number = 0; kind = 1; ticks = pos 0 }
+marginInNumbers Never = record { number = 0; kind = 2; ticks = pos 0 }
+marginInNumbers (By ticks) = record { number = 0; kind = 3; ticks = ticks }
+
+-- hold-up: 0 enabled, 1 excluded, 2 blocked by a relation; the relation is 0 in any other case
+abbrev pub holdUpInNumbers : HoldUpAnswer → ToldHoldUp
+holdUpInNumbers (refusedHoldUp number) = record { number = number; kind = 0; relation = 0 }
+holdUpInNumbers Enabled = record { number = 0; kind = 0; relation = 0 }
+holdUpInNumbers Excluded = record { number = 0; kind = 1; relation = 0 }
+holdUpInNumbers (Blocked relation) = record { number = 0; kind = 2; relation = relation }
+
+-- the static check: 12 with reason and place where it rejects; reason and place are 0 in any other case
+abbrev pub checkInNumbers : CheckAnswer → ToldCheck
+checkInNumbers (refusedCheck number) = record { number = number; reason = 0; place = 0 }
+checkInNumbers Accepts = record { number = 0; reason = 0; place = 0 }
+checkInNumbers (Rejects reason place) = record { number = 12; reason = reason; place = place }
+
+-- their parts
 abbrev pub marginNumber : MarginAnswer → ℕ
-marginNumber (refusedMargin number) = number
-marginNumber NotACondition = 0
-marginNumber Ignored = 0
-marginNumber Never = 0
-marginNumber (By ticks) = 0
+marginNumber a = marginInNumbers a .number
 
--- hold-up: a number for a refusal; `Blocked` has the relation
 abbrev pub holdUpNumber : HoldUpAnswer → ℕ
-holdUpNumber (refusedHoldUp number) = number
-holdUpNumber Enabled = 0
-holdUpNumber Excluded = 0
-holdUpNumber (Blocked relation) = 0
+holdUpNumber a = holdUpInNumbers a .number
 
--- the static check: 12 with reason and place where it rejects; reason and place are 0 in any other answer
 abbrev pub checkNumber : CheckAnswer → ℕ
-checkNumber (refusedCheck number) = number
-checkNumber Accepts = 0
-checkNumber (Rejects reason place) = 12
+checkNumber a = checkInNumbers a .number
 
 abbrev pub checkReason : CheckAnswer → ℕ
-checkReason (refusedCheck number) = 0
-checkReason Accepts = 0
-checkReason (Rejects reason place) = reason
+checkReason a = checkInNumbers a .reason
 
 abbrev pub checkPlace : CheckAnswer → ℕ
-checkPlace (refusedCheck number) = 0
-checkPlace Accepts = 0
-checkPlace (Rejects reason place) = place
+checkPlace a = checkInNumbers a .place

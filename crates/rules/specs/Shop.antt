@@ -1,4 +1,4 @@
--- The shop: example P of document 01, and the small tables of the other cases.
+-- The shop: example P of docs/RULES.md, and the small tables of the other cases.
 use mathlib.Core.Bool.{Bool, true, false}
 use mathlib.Core.List.{List, [], _∷_, _++_}
 use Prim.Native.Nat.{ℕ, _+_, _-_, _^_}

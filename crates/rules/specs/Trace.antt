@@ -1,8 +1,8 @@
 -- The trace runner. Steps: 0 request, 1 report, 2 plain tick, 3 guarded tick; at most 4,096. Ticks have event 0. One answer byte per step goes
 -- to a lent buffer, 0 for done or the refusal number; a refused step leaves the marking and the run goes on. The end marking is returned.
-use mathlib.Core.Bool.{Bool, true, false, not, _&&_, _||_, cond}
+use mathlib.Core.Bool.{Bool, not, _&&_, _||_, cond}
 use mathlib.Core.List.{List, [], _∷_, _++_}
-use Prim.Native.Nat.{ℕ, zero, suc, _+_, _*_, _/_, _%_}
+use Prim.Native.Nat.{ℕ, _+_, _*_, _/_, _%_}
 use lib.Dec.{eqb, leb, ltb}
 use lib.ListN.{length, drop, getD}
 use Rattle.rules.specs.declared.Table.{Table}

@@ -66,6 +66,13 @@ pub struct SetAnswer {
     pub set: u64,
 }
 
+// A set, and how many events it holds.
+pub struct ClosureAnswer {
+    pub number: u8,
+    pub set: u64,
+    pub size: u32,
+}
+
 pub enum MarginAnswer {
     Refused(u8),
     NotACondition,
@@ -86,6 +93,25 @@ pub enum CheckAnswer {
     Refused(u8),
     Accepts,
     Rejects(u8, usize),
+}
+
+// The three of them told in numbers: what each case is in these stands in specs/Numbers.
+pub struct ToldMargin {
+    pub number: u8,
+    pub kind: u8,
+    pub ticks: i32,
+}
+
+pub struct ToldHoldUp {
+    pub number: u8,
+    pub kind: u8,
+    pub relation: usize,
+}
+
+pub struct ToldCheck {
+    pub number: u8,
+    pub reason: u8,
+    pub place: usize,
 }
 
 // The events that a guarded tick caused are the first `count` of `caused`, in order; places past them are 0.

@@ -9,7 +9,7 @@ pub extern "C" fn timing_closure(table: &[u8], marking: &[u8], mut times: usize)
     let mut sum = 1;
     while times > 0 {
         times -= 1;
-        sum = fold::set(sum, engine::closure(t, start::stirred(m, sum)));
+        sum = fold::closure(sum, engine::closure(t, start::stirred(m, sum)));
     }
     sum
 }

@@ -1,6 +1,7 @@
 // What keeps a loop of calls from being worked out beforehand: each call is handed something that the answers before it decide, and of each
 // answer a part that they decide is taken into the sum.
 use rules::CheckAnswer;
+use rules::ClosureAnswer;
 use rules::EnabledAnswer;
 use rules::GuardedAnswer;
 use rules::HoldUpAnswer;
@@ -35,6 +36,10 @@ pub fn enabled(sum: u64, a: EnabledAnswer) -> u64 {
 
 pub fn set(sum: u64, a: SetAnswer) -> u64 {
     taken(taken(sum, a.number as u64), a.set)
+}
+
+pub fn closure(sum: u64, a: ClosureAnswer) -> u64 {
+    taken(taken(taken(sum, a.number as u64), a.set), a.size as u64)
 }
 
 fn record_word(r: Record) -> u64 {

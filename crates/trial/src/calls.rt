@@ -9,6 +9,7 @@ pub fn answer(call: u8, s: &[u8], out: &mut [u8]) -> usize {
     match call {
         0..=6 => images::answer(call, s, out),
         11..=13 => answer::put_marking_answer(out, engine_calls::moved(call, s)),
+        16 => answer::put_closure_answer(out, engine_calls::closed(s)),
         18 => answer::put_guarded_answer(out, engine_calls::guarded(s)),
         19 => list_calls::remedies(s, out),
         20 => list_calls::run(false, s, out),

@@ -1,5 +1,6 @@
 // Calls 7 to 18: the engine's that are lent no list. The first two are given an event set, the others a table, a marking, and some of them an
 // event or relation asked about.
+use rules::ClosureAnswer;
 use rules::GuardedAnswer;
 use rules::MarkingAnswer;
 use wire::given;
@@ -18,10 +19,13 @@ pub fn told(call: u8, s: &[u8]) -> Told {
         10 => told::set(engine::due(t, m)),
         14 => told::margin(engine::margin(t, m, n)),
         15 => told::hold_up(engine::hold_up(t, m, n)),
-        16 => told::set(engine::closure(t, m)),
         17 => told::check(engine::check(t, m)),
         _ => told::nothing(),
     }
+}
+
+pub fn closed(s: &[u8]) -> ClosureAnswer {
+    engine::closure(given::table(s), given::marking_behind(s))
 }
 
 pub fn moved(call: u8, s: &[u8]) -> MarkingAnswer {

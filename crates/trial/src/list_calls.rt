@@ -70,7 +70,8 @@ fn run_steps(
     answers: &mut [u8],
 ) -> MarkingAnswer
     requires { ⌜ n ≤ 4200 ⌝ }
-    ensures { λ r. ⌜ (r ≡ run t m (take n steps) (length (now (answers .entry)))) × (now (answers .exit) ≡ runAnswers t m (take n steps) (now (answers .entry))) ⌝ }
+    ensures { λ r. ⌜ (r ≡ run t m (take n steps) (length (now (answers .entry))))
+        × (now (answers .exit) ≡ runAnswers t m (take n steps) (now (answers .entry))) ⌝ }
 {
     engine::run(t, m, &steps[..n], answers)
 }

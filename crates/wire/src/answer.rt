@@ -5,6 +5,7 @@ use crate::given::TABLE;
 use crate::told;
 use crate::told::Told;
 use crate::values;
+use rules::ClosureAnswer;
 use rules::GuardedAnswer;
 use rules::MarkingAnswer;
 use rules::TableAnswer;
@@ -52,6 +53,14 @@ pub fn put_marking_answer(out: &mut [u8], a: MarkingAnswer) -> usize {
     bytes::put_byte(out, START, a.number);
     values::put_marking(out, START + 1, m);
     1 + MARKING as usize
+}
+
+// Number, set, 8 bytes, and size, 4.
+pub fn put_closure_answer(out: &mut [u8], a: ClosureAnswer) -> usize {
+    bytes::put_byte(out, START, a.number);
+    bytes::put_number(out, START + 1, 8, a.set);
+    bytes::put_number(out, START + 9, 4, a.size as u64);
+    13
 }
 
 // Number, reason and place, 10 bytes; the caused events, 64; their count, 8; the marking.

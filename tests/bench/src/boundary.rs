@@ -11,6 +11,9 @@ use std::io::{Read, Write};
 use std::sync::mpsc::channel;
 use std::thread;
 
+/// The fields of a record, of 4 bytes each in a question's second list.
+const FIELDS: usize = 6;
+
 /// What an out-parameter holds before a call.
 const BEFORE: u8 = 0xEE;
 
@@ -23,8 +26,8 @@ const fn call(name: &'static str, case: fn(&mut Rng) -> Case) -> Call {
     Call { name, case }
 }
 
-/// By their numbers in a question. Judging takes the cases of another call.
-const CALLS: [Call; 16] = [
+/// By their numbers in a question. Judging and records take the cases of other calls.
+const CALLS: [Call; 17] = [
     call("judge", generate::due_case),
     call("fresh", generate::fresh_case),
     call("size", generate::size_case),
@@ -41,6 +44,7 @@ const CALLS: [Call; 16] = [
     call("guarded_tick", generate::guarded_tick_case),
     call("remedies", generate::remedies_case),
     call("run", generate::run_bytes_case),
+    call("record", generate::enabled_case),
 ];
 
 /// The numbers that a call can give; 15 is a step's.
@@ -130,6 +134,9 @@ impl Question {
             }
             _ => {}
         }
+        if CALLS[number].name == "record" {
+            question.second = buffer(rng, 4 * FIELDS);
+        }
         if rng.chance(12) {
             damage(rng, &mut question.table);
         }
@@ -168,6 +175,7 @@ impl Question {
             "fresh" => self.fresh(),
             "size" => self.untouched(second::size(self.asked)),
             "lowest" => self.untouched(second::lowest(self.asked)),
+            "record" => self.record(),
             _ => {
                 let table = second::read_table(&self.table);
                 if table.number != 0 {
@@ -191,6 +199,23 @@ impl Question {
         answer
     }
 
+    fn record(&self) -> Answer {
+        let places = self.second.chunks_exact(4);
+        let behind = places.remainder().to_vec();
+        let mut fields: Vec<u32> = places
+            .map(|place| u32::from_le_bytes(place.try_into().expect("a place has four bytes")))
+            .collect();
+        let asked = self.asked as usize;
+        let number = second::record(&self.table, &self.marking, asked, &mut fields);
+        let mut answer = self.untouched(number);
+        answer.second = fields
+            .iter()
+            .flat_map(|field| field.to_le_bytes())
+            .collect();
+        answer.second.extend(behind);
+        answer
+    }
+
     fn of_images(&self, t: &Table, m: &Marking) -> Answer {
         let asked = self.asked as usize;
         match CALLS[self.call].name {
@@ -200,7 +225,14 @@ impl Question {
                 self.told(told.number, u8::from(told.enabled), None)
             }
             "due" => self.set(second::due(t, m)),
-            "closure" => self.set(second::closure(t, m)),
+            "closure" => {
+                let told = second::closure(t, m);
+                let mut answer = self.told(told.number, BEFORE, Some(told.set));
+                if told.number == 0 {
+                    answer.count[..4].copy_from_slice(&told.size.to_le_bytes());
+                }
+                answer
+            }
             "request" => self.acted(&second::request(t, m, asked)),
             "report" => self.acted(&second::report(t, m, asked)),
             "plain_tick" => self.acted(&second::plain_tick(t, m)),
@@ -389,7 +421,7 @@ mod tests {
     fn a_refused_question_touches_nothing() {
         let mut rng = Rng::new(2);
         for turn in 0..2_000 {
-            let mut question = Question::random(&mut rng, 4 + turn % 12);
+            let mut question = Question::random(&mut rng, 4 + turn % 13);
             question.table = vec![0; 3];
             assert_eq!(question.expected(), question.untouched(1));
         }

@@ -194,6 +194,10 @@ pub fn answer(case: &Case, answer: &Answer) -> Vec<u8> {
         Answer::Count(count) => out = vec![*count],
         Answer::Enabled(answer) => out.push(u8::from(answer.enabled)),
         Answer::Set(answer) => out.extend(answer.set.to_le_bytes()),
+        Answer::Closure(answer) => {
+            out.extend(answer.set.to_le_bytes());
+            out.extend(answer.size.to_le_bytes());
+        }
         Answer::Marking(answer) => put_marking(&mut out, &answer.marking),
         Answer::Margin(answer) => {
             let (case, value) = margin_case(answer);

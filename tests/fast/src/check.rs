@@ -110,10 +110,20 @@ pub(crate) fn verdict(t: &Table, s: &Survey, excluded: u64, busy: u64) -> Verdic
     Verdict::Accepts
 }
 
-pub fn closure(t: &Table, m: &Marking) -> Result<u64, u8> {
+/// A set and how many events it holds.
+pub struct Closure {
+    pub set: u64,
+    pub size: u32,
+}
+
+pub fn closure(t: &Table, m: &Marking) -> Result<Closure, u8> {
     judge(t, m)?;
     let s = Survey::of(t);
-    Ok(s.widened(Flags::of(m).busy | s.answers, Row::inhibitors))
+    let set = s.widened(Flags::of(m).busy | s.answers, Row::inhibitors);
+    Ok(Closure {
+        set,
+        size: set.count_ones(),
+    })
 }
 
 pub fn check(t: &Table, m: &Marking) -> Result<Verdict, u8> {

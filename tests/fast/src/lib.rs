@@ -1,4 +1,4 @@
-//! The duty engine of document 01, written for speed: decoded values are
+//! The duty engine of the rules' paper, written for speed: decoded values are
 //! borrowed and changed in place, event sets are words, one pass turns the
 //! relations into rows of words, nothing is allocated. A call that executes many
 //! events has each event's own relations at hand; a run and a trial go by words
@@ -24,7 +24,7 @@ mod time;
 mod trace;
 
 pub use ask::{report, request};
-pub use check::{check, closure, Verdict};
+pub use check::{check, closure, Closure, Verdict};
 pub use decoded::{Marking, Record, Relation, Table};
 pub use enabled::{enabled, hold_up, margin, HoldUp, Margin};
 pub use guarded::{guarded_tick, Guarded};

@@ -5,8 +5,8 @@ use bench::calls::CALLS;
 use second::case::{Answer, Case, Pair};
 use second::rng::Rng;
 use second::{
-    generate, CheckAnswer, EnabledAnswer, GuardedAnswer, HoldUpAnswer, MarginAnswer, MarkingAnswer,
-    ReadMarking, ReadTable, RemedyAnswer, SetAnswer, Step,
+    generate, CheckAnswer, ClosureAnswer, EnabledAnswer, GuardedAnswer, HoldUpAnswer, MarginAnswer,
+    MarkingAnswer, ReadMarking, ReadTable, RemedyAnswer, SetAnswer, Step,
 };
 use std::collections::BTreeSet;
 
@@ -197,7 +197,18 @@ fn answer(case: &Case) -> Option<Answer> {
         }
         Case::Closure { pair } => {
             let (t, m) = decoded(pair);
-            set(fast::closure(&t, &m))
+            Answer::Closure(match fast::closure(&t, &m) {
+                Err(number) => ClosureAnswer {
+                    number,
+                    set: 0,
+                    size: 0,
+                },
+                Ok(told) => ClosureAnswer {
+                    number: 0,
+                    set: told.set,
+                    size: told.size,
+                },
+            })
         }
         Case::Check { pair } => {
             let (t, m) = decoded(pair);

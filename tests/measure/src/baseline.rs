@@ -205,7 +205,11 @@ impl Calls for Baseline {
 
     fn closure(&self, table: &[u8], marking: &[u8], times: usize) -> u64 {
         turns(table, marking, times, |t, m, sum| {
-            taken_result(sum, fast::closure(t, m))
+            let (number, set, size) = match fast::closure(t, m) {
+                Ok(told) => (0, told.set, told.size),
+                Err(number) => (number, 0, 0),
+            };
+            taken(taken(taken(sum, number.into()), set), size.into())
         })
     }
 

@@ -5,8 +5,9 @@
 use crate::{
     check, closure, due, enabled, fresh, guarded_tick, hold_up, judge_marking, judge_table, lowest,
     margin, plain_tick, read_marking, read_table, remedies, report, request, run, run_bytes, size,
-    station, write_marking, CheckAnswer, EnabledAnswer, GuardedAnswer, HoldUpAnswer, MarginAnswer,
-    Marking, MarkingAnswer, ReadMarking, ReadTable, RemedyAnswer, SetAnswer, Step, Table,
+    station, write_marking, CheckAnswer, ClosureAnswer, EnabledAnswer, GuardedAnswer, HoldUpAnswer,
+    MarginAnswer, Marking, MarkingAnswer, ReadMarking, ReadTable, RemedyAnswer, SetAnswer, Step,
+    Table,
 };
 
 /// The table and marking that most calls are handed. They may be faulty.
@@ -116,6 +117,7 @@ pub enum Answer {
     Marking(Box<MarkingAnswer>),
     Margin(MarginAnswer),
     HoldUp(HoldUpAnswer),
+    Closure(ClosureAnswer),
     Check(CheckAnswer),
     Guarded(Box<GuardedAnswer>),
     Remedy(RemedyAnswer),
@@ -142,6 +144,7 @@ impl Answer {
             Answer::Margin(_) => 0,
             Answer::HoldUp(HoldUpAnswer::Refused(number)) => *number,
             Answer::HoldUp(_) => 0,
+            Answer::Closure(answer) => answer.number,
             Answer::Check(answer) => answer.number,
             Answer::Guarded(answer) => answer.number,
             Answer::Remedy(answer) => answer.number,
@@ -249,7 +252,7 @@ impl Case {
             Case::HoldUp { pair, event } => {
                 Answer::HoldUp(hold_up(&pair.table, &pair.marking, *event))
             }
-            Case::Closure { pair } => Answer::Set(closure(&pair.table, &pair.marking)),
+            Case::Closure { pair } => Answer::Closure(closure(&pair.table, &pair.marking)),
             Case::Check { pair } => Answer::Check(check(&pair.table, &pair.marking)),
             Case::GuardedTick { pair } => {
                 Answer::Guarded(Box::new(guarded_tick(&pair.table, &pair.marking)))

@@ -1,4 +1,4 @@
-//! The duty engine as a reference model: the rules of document 01, written to
+//! The duty engine as a reference model: the rules of the rules' paper, written to
 //! be read and compared with, not to be fast.
 
 #![forbid(unsafe_code)]
@@ -18,6 +18,7 @@ mod image;
 mod judge;
 mod margin;
 mod process;
+mod record;
 mod refusal;
 mod remedies;
 mod station;
@@ -30,7 +31,7 @@ pub mod rng;
 
 pub use ask::{report, request};
 pub use check::{check, CheckAnswer};
-pub use closure::closure;
+pub use closure::{closure, ClosureAnswer};
 pub use decoded::{
     Marking, MarkingAnswer, ReadMarking, ReadTable, Record, Relation, SetAnswer, Table,
 };
@@ -42,6 +43,7 @@ pub use hold_up::{hold_up, HoldUpAnswer};
 pub use image::{read_marking, read_table, write_marking};
 pub use judge::{judge_marking, judge_table};
 pub use margin::{margin, MarginAnswer};
+pub use record::record;
 pub use remedies::{remedies, RemedyAnswer};
 pub use station::station;
 pub use time::{due, plain_tick};

@@ -1,4 +1,4 @@
-//! Many random cases: everything occurs, and what document 01 promises holds.
+//! Many random cases: everything occurs, and what the rules' paper promises holds.
 
 mod promises;
 
@@ -384,6 +384,7 @@ fn tampered(answer: &Answer) -> Option<Answer> {
                 _ => HoldUpAnswer::Enabled,
             }
         }
+        Answer::Closure(closure) => closure.set ^= 1,
         Answer::Check(check) => check.place += 1,
         Answer::Guarded(guarded) => guarded.place += 1,
         Answer::Remedy(remedy) => remedy.length += 1,
@@ -429,4 +430,28 @@ fn a_refused_report_is_noticed() {
         }
     });
     assert!(noticed > 0);
+}
+
+/// And in particular: the right closure with a wrong size.
+#[test]
+fn a_wrong_closure_size_is_noticed() {
+    let mut done = 0;
+    let mut refused = 0;
+    for_each_case(|case, answer| {
+        let Answer::Closure(good) = answer else {
+            return;
+        };
+        for size in [0, good.size.wrapping_sub(1), good.size + 1, u32::MAX] {
+            let bad = ClosureAnswer { size, ..*good };
+            if bad != *good {
+                assert!(promise(case, &Answer::Closure(bad)).is_err());
+            }
+        }
+        if good.number == 0 {
+            done += 1;
+        } else {
+            refused += 1;
+        }
+    });
+    assert!(done > 0 && refused > 0);
 }

@@ -22,10 +22,10 @@ use Rattle.rules.specs.Laws.Tests.{clash, both, join, denied, same-test, and-fa
 use Rattle.rules.specs.Laws.Counting.{some-where, some-at, some-same, some-false}
 use Rattle.rules.specs.Laws.EventSet.{has-zero, has-small}
 use Rattle.rules.specs.Laws.Time.{set-empty}
-use Rattle.rules.specs.Laws.Words.{has-or, has-and}
-use Rattle.rules.specs.Laws.Judge.{GoodTable}
+use Rattle.rules.specs.Laws.Bitwise.{has-or, has-and}
+use Rattle.rules.specs.Shapes.Good.{GoodTable}
 use Rattle.acts.specs.Derived.{sortOf, sorted, ofSort, Own}
-use Rattle.acts.specs.Stands.{ageAt, recordAt, Stands}
+use Rattle.acts.specs.Stands.{ageAt, recordIn, Stands}
 use Rattle.acts.specs.Acting.{holdsBackAt, heldBack, youngBy, waitsFor}
 use Rattle.acts.specs.Laws.Members.{set-by-test}
 use Rattle.acts.specs.Laws.Derived.{right-small}
@@ -171,7 +171,7 @@ module _ (t : Table) (good : GoodTable t) (e : ℕ) (rows : List ℕ) (at : ℕ)
 
     module _ (tail : List Record) (m : Marking) (exists : e < t .events) (stands : Stands (t .events) tail clock sets columns m) where
       blocks-is : (k : ℕ) → k < t .count → blocks t m e k ≡ (holds k || waits k)
-      unfolding blocks stops recordAt
+      unfolding blocks stops recordIn
       blocks-is k b =
           let r = relationOf t k in
           let x = r .right in
@@ -185,7 +185,7 @@ module _ (t : Table) (good : GoodTable t) (e : ℕ) (rows : List ℕ) (at : ℕ)
           (ltb 0 (r .time)) (ltb age (r .time)) (has-time (r .time) age))
 
       enabled-is : isEnabled t m e ≡ (has included e && not (heldBack rows at sets || some (t .count) waits))
-      unfolding isEnabled recordAt
+      unfolding isEnabled recordIn
       enabled-is =
           rw (
             stands-at (t .events) tail clock sets columns m stands e exists,

@@ -15,15 +15,16 @@ use Rattle.rules.specs.EventSet.{has}
 use Rattle.rules.specs.Holds.{relationOf, isResponse}
 use Rattle.rules.specs.Effect.{Deadline, none, eventually, within, smaller, isBounded, ticksOf, given, smallest, response}
 use Rattle.rules.specs.Laws.Tests.{clash, both, or-false}
-use Rattle.rules.specs.Laws.EventSet.{has-zero, withEvent, has-with}
-use Rattle.rules.specs.Laws.Judge.{GoodTable}
+use Rattle.rules.specs.Shapes.Sets.{withEvent}
+use Rattle.rules.specs.Laws.EventSet.{has-zero, has-with}
+use Rattle.rules.specs.Shapes.Good.{GoodTable}
 use Rattle.acts.specs.Derived.{sortOf, ofSort, lastOf, Own}
-use Rattle.acts.specs.Acting.{Answered}
+use Rattle.acts.specs.Acting.{Responded}
 use Rattle.acts.specs.Laws.Derived.{right-small}
 use Rattle.acts.specs.Laws.Linked.{last-le, responses-chained}
 use Rattle.acts.specs.Laws.Sorts.{sorts}
 use Rattle.acts.specs.Laws.Sorted.{given-bounded}
-use Rattle.acts.specs.Laws.Walked.{last-kept, Next, next-last, Met, met-next, met-less}
+use Rattle.acts.specs.Laws.Walked.{last-kept, Next, next-last, LinkMet, met-next, met-less}
 
 -- The date that stands once a deadline is given besides. A date that is known was given by a deadline that was met, any other is replaced.
 abbrev pub sooner : ℕ → Deadline → Bool → ℕ → ℕ
@@ -106,7 +107,7 @@ module _ (t : Table) (e clock : ℕ) (before : List ℕ) where
     pub deadlines : (x : ℕ) → x < 64
         → sooner clock (smallest t e x n) (has seen x) (getD columns (64 + x) 0) ≡ sooner clock (response t e x) false (getD before (64 + x) 0)
 
-  pub answering-end : (n seen : ℕ) (columns : List ℕ) → Answering n seen columns → n ≡ 0 → Answered t e clock before columns
+  pub answering-end : (n seen : ℕ) (columns : List ℕ) → Answering n seen columns → n ≡ 0 → Responded t e clock before columns
   unfolding smallest
   answering-end n seen columns w over = record {
     same-size = w .same-size;
@@ -138,7 +139,7 @@ module _ (t : Table) (e clock : ℕ) (before : List ℕ) where
       abbrev link : ℕ
       link = getD links ((n - 1) % 256) 0
 
-      met : Met t 3 e n link
+      met : LinkMet t 3 e n link
       met = met-next t 3 e good rows at links own responses-chained n (w .next) more
 
       pub answering-less : link % 512 < n

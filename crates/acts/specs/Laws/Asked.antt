@@ -1,6 +1,6 @@
 -- The number of an ask: the event's own and its class come first, and where they give none, whether the event is enabled. Assumes nothing.
 use mathlib.Core.Path.{_≡_, refl, _∙_, ap, sym}
-use mathlib.Core.Bool.{Bool, true, false, not, cond, Bool·beq}
+use mathlib.Core.Bool.{Bool, true, false, not, Bool·beq}
 use Prim.Native.Nat.{ℕ, zero, suc, _<_, _≤_}
 use native.Mathlib.Omega.{arith}
 use borrow.Author.Tests.{lt-ltb, le-ltb}
@@ -11,7 +11,8 @@ use Rattle.rules.specs.Numbers.{_if_, _else_}
 use Rattle.rules.specs.Holds.{isControllable}
 use Rattle.rules.specs.Judge.{eventNumber}
 use Rattle.rules.specs.Enabled.{isEnabled}
-use Rattle.rules.specs.Laws.Ask.{askNumber, other, other-same}
+use Rattle.rules.specs.Shapes.Asked.{askNumber, other}
+use Rattle.rules.specs.Laws.Ask.{other-same}
 use Rattle.rules.specs.Laws.Numbers.{else-done, else-refused}
 use Rattle.acts.specs.declared.derived.Head.{Head}
 use Rattle.acts.specs.Derived.{headOf}

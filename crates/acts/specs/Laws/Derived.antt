@@ -13,9 +13,9 @@ use borrow.Author.Tests.{eqb-true, ltb-true, lt-ltb, le-ltb}
 use Rattle.rules.specs.declared.Relation.{Relation}
 use Rattle.rules.specs.declared.Table.{Table}
 use Rattle.rules.specs.Holds.{isCondition, isResponse, isInclusion, isMilestone, relationOf}
-use Rattle.rules.specs.Laws.EventSet.{withEvent}
-use Rattle.rules.specs.Laws.Judge.{GoodTable}
-use Rattle.rules.specs.Laws.Told.{time-fits}
+use Rattle.rules.specs.Shapes.Sets.{withEvent}
+use Rattle.rules.specs.Shapes.Good.{GoodTable}
+use Rattle.rules.specs.Laws.Granted.{time-fits}
 use Rattle.acts.specs.Derived.{sortOf, chainOf, isChained, linkOf, rowsNoted, linksNoted}
 
 -- what a relation of a judged table holds fits its digits

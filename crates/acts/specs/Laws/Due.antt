@@ -13,9 +13,9 @@ use Rattle.rules.specs.EventSet.{has}
 use Rattle.rules.specs.Holds.{recordOf}
 use Rattle.rules.specs.Time.{isDue, dueSet, plainTickNumber}
 use Rattle.rules.specs.Laws.Tests.{both}
-use Rattle.rules.specs.Laws.EventSet.{withEvent}
+use Rattle.rules.specs.Shapes.Sets.{withEvent}
 use Rattle.rules.specs.Laws.Time.{none-due-yet, some-due-still}
-use Rattle.acts.specs.Stands.{ticksAt, recordAt, Stands, mayBeDue}
+use Rattle.acts.specs.Stands.{ticksAt, recordIn, Stands, mayBeDue}
 use Rattle.acts.specs.Laws.Stands.{stands-events, stands-at}
 use Rattle.acts.specs.Laws.Members.{set-by-test}
 use Rattle.acts.specs.Laws.Each.{chosen-in, chosen-out}
@@ -41,7 +41,7 @@ due-by false pending bounded over ticks e = refl
 
 module _ (n : ℕ) (tail : List Record) (clock : ℕ) (sets columns : List ℕ) (m : Marking) (stands : Stands n tail clock sets columns m) where
   due-at : (x : ℕ) → x < n → (mayBeDue sets n x && isOver clock columns x) ≡ isDue (recordOf m x)
-  unfolding isDue recordAt
+  unfolding isDue recordIn
   due-at x b =
       rw (stands-at n tail clock sets columns m stands x b, lt-ltb x n b)
       (due-by (has (getD sets 1 0) x) (has (getD sets 2 0) x) (has (getD sets 3 0) x) (isOver clock columns x) (ticksAt clock columns x) (none-left _ clock))

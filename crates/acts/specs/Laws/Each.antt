@@ -10,9 +10,10 @@ use borrow.Author.Tests.{eq-eqb, ne-eqb}
 use Rattle.rules.specs.Counting.{some, lowest}
 use Rattle.rules.specs.EventSet.{has}
 use Rattle.rules.specs.Laws.Tests.{clash, denied, both, either, join, or-left, or-right, and-false, or-false, same-test}
-use Rattle.rules.specs.Laws.Counting.{Found, Lacks, some-where, some-at, some-false, lowest-cases}
-use Rattle.rules.specs.Laws.EventSet.{has-zero, has-minus-same, has-minus-other, withEvent, has-with}
-use Rattle.rules.specs.Laws.Words.{has-or}
+use Rattle.rules.specs.Laws.Counting.{some-where, some-at, some-false, lowest-cases}
+use Rattle.rules.specs.Shapes.Sets.{withEvent}
+use Rattle.rules.specs.Laws.EventSet.{has-zero, has-minus-same, has-minus-other, has-with}
+use Rattle.rules.specs.Laws.Bitwise.{has-or}
 use Rattle.rules.specs.Laws.Turns.{same-word}
 
 -- a word that is not 0 has a member
@@ -79,10 +80,12 @@ module _ (f : ℕ → Bool) (x : ℕ) where
   pub chosen-start : (set : ℕ) → (has 0 x || (has set x && f x)) ≡ (has set x && f x)
   chosen-start set = rw (has-zero x)
 
-  pub chosen-in : (found left e : ℕ) {r : ℕ} {whole : Bool} → has left e ≡ true → f e ≡ true → r ≡ withEvent found e → (has found x || (has left x && f x)) ≡ whole
+  pub chosen-in : (found left e : ℕ) {r : ℕ} {whole : Bool} → has left e ≡ true → f e ≡ true → r ≡ withEvent found e
+      → (has found x || (has left x && f x)) ≡ whole
       → (has r x || (has (left - 2 ^ e) x && f x)) ≡ whole
   chosen-in found left e inside passes made old =
-      ap (λ (b : Bool). b || (has (left - 2 ^ e) x && f x)) (ap (λ (v : ℕ). has v x) made ∙ has-with found e x) ∙ or-assoc (has found x) (eqb e x) (has (left - 2 ^ e) x && f x)
+      ap (λ (b : Bool). b || (has (left - 2 ^ e) x && f x)) (ap (λ (v : ℕ). has v x) made ∙ has-with found e x)
+      ∙ or-assoc (has found x) (eqb e x) (has (left - 2 ^ e) x && f x)
       ∙ ap (λ (b : Bool). has found x || b) (sym (each-out left e inside f x ∙ rw (passes, and-true (eqb e x)))) ∙ old
 
   pub chosen-out : (found left e : ℕ) {r : ℕ} {whole : Bool} → has left e ≡ true → f e ≡ false → r ≡ found → (has found x || (has left x && f x)) ≡ whole

@@ -15,13 +15,15 @@ use Rattle.rules.specs.declared.Record.{Record}
 use Rattle.rules.specs.declared.Marking.{Marking}
 use Rattle.rules.specs.EventSet.{has}
 use Rattle.rules.specs.Holds.{limit}
-use Rattle.rules.specs.Effect.{Deadline, none, eventually, within, isPending, isBounded, ticksOf, response, includes, excludes, executed, withDeadline, withInclusion, responded, effectAt, effect}
+use Rattle.rules.specs.Effect.{Deadline, none, eventually, within, isPending, isBounded, ticksOf, response, includes, excludes, executed, withDeadline}
+use Rattle.rules.specs.Effect.{withInclusion, responded, effectAt, effect}
 use Rattle.rules.specs.Laws.Tests.{and-false, or-false}
-use Rattle.rules.specs.Laws.EventSet.{withEvent, has-with}
-use Rattle.rules.specs.Laws.Judge.{GoodTable}
+use Rattle.rules.specs.Shapes.Sets.{withEvent}
+use Rattle.rules.specs.Laws.EventSet.{has-with}
+use Rattle.rules.specs.Shapes.Good.{GoodTable}
 use Rattle.acts.specs.Derived.{Own}
-use Rattle.acts.specs.Stands.{ageAt, ticksAt, recordAt, Stands}
-use Rattle.acts.specs.Acting.{includedAfter, pendingAfter, boundedAfter, Answered}
+use Rattle.acts.specs.Stands.{ageAt, ticksAt, recordIn, Stands}
+use Rattle.acts.specs.Acting.{includedAfter, pendingAfter, boundedAfter, Responded}
 use Rattle.acts.specs.Laws.Sorted.{responses-are, bounded-are, inclusions-are, exclusions-are}
 use Rattle.acts.specs.Laws.Stands.{each-stands, fourOf, four}
 
@@ -104,12 +106,12 @@ module _ (t : Table) (good : GoodTable t) (e : ℕ) (rows : List ℕ) (at : ℕ)
     (included-is : (x : ℕ) → has included x ≡ includedAfter rows at (getD sets 1 0) x)
     (pending-is : (x : ℕ) → has pending x ≡ pendingAfter rows at (getD sets 2 0) e x)
     (bounded-is : (x : ℕ) → has bounded x ≡ boundedAfter rows at (getD sets 3 0) e x)
-    (answers : length (set columns (0 + e) (clock + limit)) ≡ 128 → Answered t e clock (set columns (0 + e) (clock + limit)) columns-after)
+    (answers : length (set columns (0 + e) (clock + limit)) ≡ 128 → Responded t e clock (set columns (0 + e) (clock + limit)) columns-after)
   where
     two-columns : length (set columns (0 + e) (clock + limit)) ≡ 128
     two-columns = length-set columns (0 + e) (clock + limit) ∙ stands .two-columns
 
-    answered : Answered t e clock (set columns (0 + e) (clock + limit)) columns-after
+    answered : Responded t e clock (set columns (0 + e) (clock + limit)) columns-after
     answered = answers two-columns
 
     abbrev sets-after : List ℕ
@@ -128,8 +130,8 @@ module _ (t : Table) (good : GoodTable t) (e : ℕ) (rows : List ℕ) (at : ℕ)
         ∙ ap (cond (isBounded (response t e x)) (clock + ticksOf (response t e x)))
         (getD-set-other columns (0 + e) (64 + x) (clock + limit) 0 (λ q. absurd (omega (arith, q, stands .few))))
 
-    record-is : (x : ℕ) → x < t .events → effectAt t e x (recordAt clock sets columns x) ≡ recordAt clock sets-after columns-after x
-    unfolding effectAt withInclusion recordAt fieldsAfter
+    record-is : (x : ℕ) → x < t .events → effectAt t e x (recordIn clock sets columns x) ≡ recordIn clock sets-after columns-after x
+    unfolding effectAt withInclusion recordIn fieldsAfter
     record-is x b =
         let small : x < 64 = omega (arith, stands .few) in
         let d = response t e x in

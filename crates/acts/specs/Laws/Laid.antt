@@ -21,8 +21,8 @@ use Rattle.rules.specs.Judge.{recordFits}
 use Rattle.rules.specs.Laws.Tests.{both, and-false, or-false}
 use Rattle.rules.specs.Laws.Counting.{length-places, places-more}
 use Rattle.rules.specs.Laws.EventSet.{has-zero}
-use Rattle.rules.specs.Laws.Judge.{GoodMarking, Good}
-use Rattle.acts.specs.Stands.{ageAt, ticksAt, recordAt, markingOf, Stands}
+use Rattle.rules.specs.Shapes.Good.{GoodMarking, Good}
+use Rattle.acts.specs.Stands.{ageAt, ticksAt, recordIn, markingIn, Stands}
 use Rattle.acts.specs.Laws.Stands.{fourOf, four}
 
 -- a record is read when each of its fields is
@@ -30,8 +30,8 @@ pub record-read : (clock : ℕ) (sets columns : List ℕ) (e age deadline : ℕ)
     → happened ≡ has (getD sets 0 0) e → included ≡ has (getD sets 1 0) e → pending ≡ has (getD sets 2 0) e → bounded ≡ has (getD sets 3 0) e
     → age ≡ cond happened (ageAt clock columns e) 0 → deadline ≡ cond bounded (ticksAt clock columns e) 0
     → record { age = age; deadline = deadline; happened = happened; included = included; pending = pending; bounded = bounded }
-    ≡ recordAt clock sets columns e
-unfolding recordAt
+    ≡ recordIn clock sets columns e
+unfolding recordIn
 record-read clock sets columns e age deadline happened included pending bounded h i p b a d = rw (a, d, h, i, p, b)
 
 -- the word has the events below n at which f holds
@@ -135,7 +135,7 @@ module _ (m : Marking) (few : m .events ≤ 64) (size : length (m .records) ≡ 
     member : (w : ℕ) (f : ℕ → Bool) → Upto f (m .events) w → (x : ℕ) → x < m .events → f x ≡ has w x
     member w f made x l = sym (made x ∙ rw (lt-ltb x (m .events) l))
 
-    back : (x : ℕ) → x < m .events → recordOf m x ≡ recordAt 0 (fourOf sets h i p b) columns x
+    back : (x : ℕ) → x < m .events → recordOf m x ≡ recordIn 0 (fourOf sets h i p b) columns x
     unfolding recordFits
     back x l =
         let r = recordOf m x in
@@ -151,7 +151,7 @@ module _ (m : Marking) (few : m .events ≤ 64) (size : length (m .records) ≡ 
         (ticks-back (r .bounded) (r .deadline) _ (leb-true _ _ ticks) (laid .deadlines-laid x l))
 
     pub laid-stands : Stands (m .events) (drop (m .events) (m .records)) 0 (fourOf sets h i p b) columns m
-    unfolding markingOf
+    unfolding markingIn
     laid-stands = record {
       few = few;
       four-sets = four sets h i p b four-sets .4;

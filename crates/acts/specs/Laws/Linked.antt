@@ -17,8 +17,9 @@ use Rattle.rules.specs.Counting.{some}
 use Rattle.rules.specs.EventSet.{has}
 use Rattle.rules.specs.Laws.Tests.{both, join, and-false, or-false}
 use Rattle.rules.specs.Laws.Counting.{some-none, some-more}
-use Rattle.rules.specs.Laws.EventSet.{withEvent, has-with, has-zero}
-use Rattle.rules.specs.Laws.Judge.{GoodTable}
+use Rattle.rules.specs.Shapes.Sets.{withEvent}
+use Rattle.rules.specs.Laws.EventSet.{has-with, has-zero}
+use Rattle.rules.specs.Shapes.Good.{GoodTable}
 use Rattle.acts.specs.Derived.{sortOf, sorted, Derived, chainOf, isChained, ofSort, lastOf, linkOf, Own, Linked, rowsNoted, linksNoted}
 use Rattle.acts.specs.Laws.Derived.{right-small, time-small, sort-small}
 use Rattle.acts.specs.Laws.Derived.{Chained, chain-cases, chain-after, chain-same}
@@ -53,21 +54,6 @@ module _ (t : Table) (s e : ℕ) where
       go : (b : Bool) → ofSort t s e n ≡ b → (lastOf t s e n ≡ suc k → ofSort t s e k ≡ true) → cond b (suc n) (lastOf t s e n) ≡ suc k → ofSort t s e k ≡ true
       go true p below h = let q : k ≡ n = omega (arith, h) in rw q p
       go false p below h = below h
-
-  -- after it there is none of that sort
-  pub last-none : (n k : ℕ) → lastOf t s e n ≤ k → k < n → ofSort t s e k ≡ false
-  unfolding lastOf
-  last-none zero k low high = absurd (omega arith)
-  last-none (suc n) k low high = go (ofSort t s e n) refl (last-none n k) low
-    where
-      go : (b : Bool) → ofSort t s e n ≡ b → (lastOf t s e n ≤ k → k < n → ofSort t s e k ≡ false) → cond b (suc n) (lastOf t s e n) ≤ k
-          → ofSort t s e k ≡ false
-      go true p below h = absurd (omega arith)
-      go false p below h = at (ℕ-discrete k n)
-        where
-          at : Dec (k ≡ n) → ofSort t s e k ≡ false
-          at (yes q) = rw q p
-          at (no q) = below h (omega arith)
 
   pub last-here : (n : ℕ) → ofSort t s e n ≡ true → lastOf t s e (n + 1) ≡ n + 1
   unfolding lastOf

@@ -13,7 +13,7 @@ use Rattle.rules.specs.EventSet.{has, setOf, lowestOf}
 use Rattle.rules.specs.Laws.Tests.{not-false, same-test, and-false}
 use Rattle.rules.specs.Laws.Counting.{Found, lowest-cases}
 use Rattle.rules.specs.Laws.EventSet.{has-zero, has-small, set-has, set-holds, has-minus-same, has-minus-other}
-use Rattle.rules.specs.Laws.Words.{has-and, has-not}
+use Rattle.rules.specs.Laws.Bitwise.{has-and, has-not}
 use Rattle.rules.specs.Laws.Turns.{same-word, empty-word, worth-le}
 use Rattle.acts.specs.Derived.{everyEvent}
 

@@ -9,7 +9,7 @@ use Rattle.rules.specs.Counting.{some}
 use Rattle.rules.specs.Holds.{isCondition, isMilestone, isResponse, isInclusion, isExclusion, relationOf}
 use Rattle.rules.specs.Effect.{Deadline, none, eventually, within, smaller, isPending, isBounded, leads, given, smallest, response, includes, excludes}
 use Rattle.rules.specs.Laws.Counting.{some-same}
-use Rattle.rules.specs.Laws.Judge.{GoodTable, GoodRelation}
+use Rattle.rules.specs.Shapes.Good.{GoodTable, GoodRelation}
 use Rattle.acts.specs.Derived.{sortOf, sorted}
 use Rattle.acts.specs.Laws.Sorts.{sorts}
 

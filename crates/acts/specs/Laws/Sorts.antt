@@ -5,7 +5,7 @@ use Prim.Native.Nat.{ℕ, zero, suc, _≤_}
 use native.Mathlib.Omega.{arith}
 use lib.Dec.{eqb, ltb}
 use Rattle.rules.specs.declared.Relation.{Relation}
-use Rattle.rules.specs.Laws.Judge.{GoodRelation}
+use Rattle.rules.specs.Shapes.Good.{GoodRelation}
 use Rattle.acts.specs.Derived.{sortOf}
 
 -- a sort, against the kind of a relation, whether it has a time, whether it is bounded, and whether it leads to its own left event

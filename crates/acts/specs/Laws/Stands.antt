@@ -14,7 +14,7 @@ use Rattle.rules.specs.EventSet.{has}
 use Rattle.rules.specs.Holds.{limit, emptyRecord, recordOf, withRecords}
 use Rattle.rules.specs.Time.{later, time}
 use Rattle.rules.specs.Laws.Counting.{length-places, places-at}
-use Rattle.acts.specs.Stands.{ageAt, ticksAt, recordAt, markingOf, Stands}
+use Rattle.acts.specs.Stands.{ageAt, ticksAt, recordIn, markingIn, Stands}
 
 -- a change of the first n places of a list that has r there makes a list that has s there, if it makes each place of s out of that of r
 module _ {A : Type 0} (n : ℕ) (f : ℕ → A → A) (r s : ℕ → A) (tail : List A) (made : (x : ℕ) → x < n → f x (r x) ≡ s x) where
@@ -33,26 +33,26 @@ module _ {A : Type 0} (n : ℕ) (f : ℕ → A → A) (r s : ℕ → A) (tail : 
 
 module _ (n : ℕ) (tail : List Record) (clock : ℕ) (sets columns : List ℕ) (m : Marking) (stands : Stands n tail clock sets columns m) where
   pub stands-events : m .events ≡ n
-  unfolding markingOf
+  unfolding markingIn
   stands-events = ap {B = ℕ} (λ (k : Marking). k .events) (stands .is)
 
-  stands-records : m .records ≡ places n (recordAt clock sets columns) ++ tail
-  unfolding markingOf
+  stands-records : m .records ≡ places n (recordIn clock sets columns) ++ tail
+  unfolding markingIn
   stands-records = ap {B = List Record} (λ (k : Marking). k .records) (stands .is)
 
   -- the record of an event
-  pub stands-at : (x : ℕ) → x < n → recordOf m x ≡ recordAt clock sets columns x
+  pub stands-at : (x : ℕ) → x < n → recordOf m x ≡ recordIn clock sets columns x
   stands-at x b =
       ap {B = Record} (λ rs. getD rs x emptyRecord) stands-records
-      ∙ List·getD-append (places n (recordAt clock sets columns)) tail emptyRecord x (omega (arith, b, length-places (recordAt clock sets columns) n))
-      ∙ places-at (recordAt clock sets columns) n x emptyRecord b
+      ∙ List·getD-append (places n (recordIn clock sets columns)) tail emptyRecord x (omega (arith, b, length-places (recordIn clock sets columns) n))
+      ∙ places-at (recordIn clock sets columns) n x emptyRecord b
 
   -- a change of each record, and words that have the changed records
   pub each-stands : (f : ℕ → Record → Record) (clock2 : ℕ) (sets2 columns2 : List ℕ) → length sets2 ≡ 4 → length columns2 ≡ 128
       → ((x : ℕ) → x < n → getD columns2 x 0 ≤ clock2 + limit)
-      → ((x : ℕ) → x < n → f x (recordAt clock sets columns x) ≡ recordAt clock2 sets2 columns2 x)
+      → ((x : ℕ) → x < n → f x (recordIn clock sets columns x) ≡ recordIn clock2 sets2 columns2 x)
       → Stands n tail clock2 sets2 columns2 (withRecords m (eachBelow (m .events) f (m .records)))
-  unfolding markingOf
+  unfolding markingIn
   each-stands f clock2 sets2 columns2 four two begun made = record {
     few = stands .few;
     four-sets = four;
@@ -61,7 +61,7 @@ module _ (n : ℕ) (tail : List Record) (clock : ℕ) (sets columns : List ℕ) 
     is =
         rw (stands-events, stands-records)
         (ap {B = Marking} (λ rs. record { records = rs; events = n })
-        (each-below-places n f (recordAt clock sets columns) (recordAt clock2 sets2 columns2) tail made));
+        (each-below-places n f (recordIn clock sets columns) (recordIn clock2 sets2 columns2) tail made));
   }
 
 -- four sets that are written one after the other
@@ -90,8 +90,8 @@ passed : (until clock : ℕ) → until - clock - 1 ≡ until - (clock + 1)
 passed until clock = omega arith
 
 later-at : (clock : ℕ) (sets columns : List ℕ) (x : ℕ) → getD columns x 0 ≤ clock + limit
-    → later (recordAt clock sets columns x) ≡ recordAt (clock + 1) sets columns x
-unfolding later recordAt
+    → later (recordIn clock sets columns x) ≡ recordIn (clock + 1) sets columns x
+unfolding later recordIn
 later-at clock sets columns x begun =
     let happened = has (getD sets 0 0) x in
     let included = has (getD sets 1 0) x in

@@ -9,11 +9,11 @@ use Rattle.rules.specs.declared.Table.{Table}
 use Rattle.rules.specs.Counting.{some}
 use Rattle.rules.specs.Laws.Tests.{or-false}
 use Rattle.rules.specs.Laws.Counting.{some-at, some-none}
-use Rattle.rules.specs.Laws.Judge.{GoodTable}
+use Rattle.rules.specs.Shapes.Good.{GoodTable}
 use Rattle.acts.specs.Derived.{lastOf, Own}
 use Rattle.acts.specs.Acting.{isYoung, waitsFor}
 use Rattle.acts.specs.Laws.Linked.{last-le, waits-chained}
-use Rattle.acts.specs.Laws.Walked.{last-kept, Next, next-last, Met, met-next, met-less}
+use Rattle.acts.specs.Laws.Walked.{last-kept, Next, next-last, LinkMet, met-next, met-less}
 
 module _ (t : Table) (e clock included : ℕ) (columns : List ℕ) where
   abbrev waits : ℕ → Bool
@@ -42,7 +42,7 @@ module _ (t : Table) (e clock included : ℕ) (columns : List ℕ) where
         abbrev link : ℕ
         link = getD links ((n - 1) % 256) 0
 
-        met : Met t 1 e n link
+        met : LinkMet t 1 e n link
         met = met-next t 1 e good rows at links own waits-chained n (waiting .next) more
 
         said : {b : Bool} → isYoung clock included columns link ≡ b → waitsFor t e clock included columns (met .place) ≡ b

@@ -8,7 +8,7 @@ use lib.Dec.{ltb}
 use lib.ListN.{getD}
 use Rattle.rules.specs.declared.Table.{Table}
 use Rattle.rules.specs.Holds.{relationOf}
-use Rattle.rules.specs.Laws.Judge.{GoodTable}
+use Rattle.rules.specs.Shapes.Good.{GoodTable}
 use Rattle.acts.specs.Derived.{chainOf, ofSort, lastOf, Own}
 use Rattle.acts.specs.Laws.Linked.{last-le, last-of-sort, chain-says}
 
@@ -32,7 +32,7 @@ module _ (t : Table) (s e : ℕ) where
   next-last n b = record { small = omega (arith, last-le t s e n); own = last-of-sort t s e n }
 
   -- which relation it is, and what its link says
-  pub record Met (n link : ℕ) : Type 0 where
+  pub record LinkMet (n link : ℕ) : Type 0 where
     pub place : ℕ
     pub number : n ≡ suc place
     pub exists : place < t .count
@@ -42,11 +42,11 @@ module _ (t : Table) (s e : ℕ) where
     pub time : link / 32768 % 1073741824 ≡ relationOf t place .time
 
   -- the numbers of the links fall
-  pub met-less : {n link : ℕ} → Met n link → link % 512 < n
+  pub met-less : {n link : ℕ} → LinkMet n link → link % 512 < n
   met-less met = omega (arith, met .number, met .next, last-le t s e (met .place))
 
   module _ (good : GoodTable t) (rows : List ℕ) (at : ℕ) (links : List ℕ) (own : Own t (t .count) e rows at links) (chained : ltb (chainOf s) 10 ≡ true) where
-    pub met-next : (n : ℕ) → Next n → (n ≡ 0 → ⊥) → Met n (getD links ((n - 1) % 256) 0)
+    pub met-next : (n : ℕ) → Next n → (n ≡ 0 → ⊥) → LinkMet n (getD links ((n - 1) % 256) 0)
     met-next zero next more = absurd (more refl)
     met-next (suc k) next more =
         let exists : k < t .count = omega (arith, next .small) in

@@ -1,5 +1,5 @@
 -- An answer of the check: a verdict is no refusal, and what it says for the guarded tick. Assumes nothing.
-use mathlib.Core.Path.{_≡_, refl, _∙_, ap, sym, subst}
+use mathlib.Core.Path.{_≡_, refl, subst}
 use mathlib.Core.Bool.{Bool, true, false, cond}
 use Prim.Native.Nat.{ℕ}
 use native.Mathlib.Omega.{arith}
@@ -9,7 +9,6 @@ use Rattle.rules.specs.declared.Table.{Table}
 use Rattle.rules.specs.declared.Marking.{Marking}
 use Rattle.rules.specs.declared.CheckAnswer.{CheckAnswer}
 use Rattle.rules.specs.declared.CheckAnswer.the-variants.{Refused, Accepts, Rejects}
-use Rattle.rules.specs.declared.GuardedAnswer.{GuardedAnswer}
 use Rattle.rules.specs.Counting.{lowest}
 use Rattle.rules.specs.Numbers.{checkNumber}
 use Rattle.rules.specs.Judge.{judged}

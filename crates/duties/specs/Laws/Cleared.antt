@@ -12,8 +12,9 @@ use Rattle.rules.specs.declared.Table.{Table}
 use Rattle.rules.specs.EventSet.{has}
 use Rattle.rules.specs.Check.{awaited}
 use Rattle.rules.specs.Laws.Tests.{decide, clash, denied, either, or-left}
-use Rattle.rules.specs.Laws.EventSet.{has-zero, withEvent, has-with}
-use Rattle.rules.specs.Laws.Judge.{GoodTable}
+use Rattle.rules.specs.Shapes.Sets.{withEvent}
+use Rattle.rules.specs.Laws.EventSet.{has-zero, has-with}
+use Rattle.rules.specs.Shapes.Good.{GoodTable}
 use Rattle.acts.specs.Derived.{Derived, everyEvent}
 use Rattle.duties.specs.Inhibition.{inhibitorsIn, Cleared}
 use Rattle.duties.specs.Laws.Followed.{awaited-within}
@@ -29,7 +30,8 @@ module _ (rows : List ℕ) where
 
   module _ {cleared : ℕ} (c : Cleared rows cleared) where
     -- members keep their rank, and what is new is above them all
-    pub cleared-with : (e : ℕ) → ((x : ℕ) → has (inhibitorsIn rows everyEvent everyEvent e) x ≡ true → has cleared x ≡ true) → Cleared rows (withEvent cleared e)
+    pub cleared-with : (e : ℕ) → ((x : ℕ) → has (inhibitorsIn rows everyEvent everyEvent e) x ≡ true → has cleared x ≡ true)
+        → Cleared rows (withEvent cleared e)
     cleared-with e inside = record {
       rank = rank;
       most = suc (c .most);

@@ -14,10 +14,10 @@ use Rattle.rules.specs.EventSet.{has}
 use Rattle.rules.specs.Holds.{relationOf}
 use Rattle.rules.specs.Effect.{leads}
 use Rattle.rules.specs.Laws.Tests.{clash, denied, both, join, and-false, same-test}
-use Rattle.rules.specs.Laws.Counting.{Found, Lacks, some-where, some-at, some-same, lowest-cases, lowest-none}
+use Rattle.rules.specs.Laws.Counting.{some-where, some-at, some-same, lowest-cases, lowest-none}
 use Rattle.rules.specs.Laws.EventSet.{has-zero}
-use Rattle.rules.specs.Laws.Words.{has-or, has-and}
-use Rattle.rules.specs.Laws.Judge.{GoodTable, GoodRelation}
+use Rattle.rules.specs.Laws.Bitwise.{has-or, has-and}
+use Rattle.rules.specs.Shapes.Good.{GoodTable}
 use Rattle.acts.specs.Derived.{sortOf, rowOf, sorted, Derived}
 use Rattle.duties.specs.Inhibition.{ledTo}
 use Rattle.duties.specs.Reasons.{Led, Ends}
@@ -87,7 +87,8 @@ module _ (t : Table) where
               let k = some-where (sorted t s (e .0) x) (t .count) (sym (made .row (e .0) (e .1) s few x) ∙ p .1) in
               let q = both (eqb (sortOf (relationOf t (k .0))) s) (leads (relationOf t (k .0)) (e .0) x) (k .2) in
               let r = both (eqb (relationOf t (k .0) .left) (e .0)) (eqb (relationOf t (k .0) .right) x) (q .1) in
-              some-at (λ k. from t s set k && eqb (relationOf t k .right) x) (t .count) (k .0) (k .1) (join (join (q .0) (ap (has set) (eqb-true _ _ (r .0)) ∙ p .0)) (r .1))
+              some-at (λ k. from t s set k && eqb (relationOf t k .right) x) (t .count) (k .0) (k .1)
+              (join (join (q .0) (ap (has set) (eqb-true _ _ (r .0)) ∙ p .0)) (r .1))
 
           back : some (t .count) (λ k. from t s set k && eqb (relationOf t k .right) x) ≡ true → some 64 (ledTo rows s set x) ≡ true
           back h =

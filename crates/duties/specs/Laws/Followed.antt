@@ -24,13 +24,13 @@ use Rattle.rules.specs.Laws.Tests.{decide, clash, both, join, same-test, and-fa
 use Rattle.rules.specs.Laws.Counting.{some-where, some-at, some-same}
 use Rattle.rules.specs.Laws.EventSet.{has-zero, set-has, set-holds, set-lt-power}
 use Rattle.rules.specs.Laws.Time.{set-empty}
-use Rattle.rules.specs.Laws.Words.{has-or, has-and}
+use Rattle.rules.specs.Laws.Bitwise.{has-or, has-and}
 use Rattle.rules.specs.Laws.Turns.{same-word}
-use Rattle.rules.specs.Laws.Judge.{GoodTable}
+use Rattle.rules.specs.Shapes.Good.{GoodTable}
 use Rattle.rules.specs.Laws.Widened.{has-below, fully-within, fully-contains, fully-closed}
 use Rattle.rules.specs.Laws.Closure.{follows-where}
 use Rattle.rules.specs.Laws.Needed.{due-fits}
-use Rattle.acts.specs.Derived.{sortOf, rowOf, sorted, Derived, everyEvent}
+use Rattle.acts.specs.Derived.{rowOf, Derived, everyEvent}
 use Rattle.duties.specs.Inhibition.{inhibitorsIn, Reached, readyIn}
 use Rattle.acts.specs.Laws.Members.{set-by-test, has-every}
 use Rattle.duties.specs.Laws.Sets.{isMissing, isWaiting}
@@ -62,23 +62,27 @@ module _ (t : Table) (good : GoodTable t) (rows : List ℕ) (made : Derived t (t
   module _ (e : ℕ) (small : e < 64) (x : ℕ) where
     waits-for : has (bitOr (rowOf rows e 0) (rowOf rows e 1)) x ≡ some (t .count) (λ k. isCondition (relationOf t k) && leads (relationOf t k) e x)
     waits-for =
-        has-or (rowOf rows e 0) (rowOf rows e 1) x ∙ ap₂ _||_ (made .row e small 0 (omega arith) x) (made .row e small 1 (omega arith) x) ∙ conditions-are t e x good
+        has-or (rowOf rows e 0) (rowOf rows e 1) x ∙ ap₂ _||_ (made .row e small 0 (omega arith) x) (made .row e small 1 (omega arith) x)
+        ∙ conditions-are t e x good
 
     awaits : has (rowOf rows e 2) x ≡ some (t .count) (λ k. isMilestone (relationOf t k) && leads (relationOf t k) e x)
     awaits = made .row e small 2 (omega arith) x ∙ milestones-are t e x good
 
     -- its inhibitors, by the relations
-    pub has-inhibitors : (conditions milestones : ℕ) → has (inhibitorsIn rows conditions milestones e) x ≡ some (t .count) (leadsFrom t conditions milestones e x)
+    pub has-inhibitors : (conditions milestones : ℕ)
+        → has (inhibitorsIn rows conditions milestones e) x ≡ some (t .count) (leadsFrom t conditions milestones e x)
     has-inhibitors conditions milestones =
         has-or (bitAnd (bitOr (rowOf rows e 0) (rowOf rows e 1)) conditions) (bitAnd (rowOf rows e 2) milestones) x
         ∙ ap₂ _||_
-        (has-and (bitOr (rowOf rows e 0) (rowOf rows e 1)) conditions x ∙ ap (λ (a : Bool). a && has conditions x) waits-for ∙ some-besides _ (has conditions x) (t .count))
+        (has-and (bitOr (rowOf rows e 0) (rowOf rows e 1)) conditions x ∙ ap (λ (a : Bool). a && has conditions x) waits-for
+        ∙ some-besides _ (has conditions x) (t .count))
         (has-and (rowOf rows e 2) milestones x ∙ ap (λ (a : Bool). a && has milestones x) awaits ∙ some-besides _ (has milestones x) (t .count))
         ∙ some-either _ _ (t .count)
         ∙ some-same _ _ (t .count) (λ k b. one (relationOf t k) (decide (leads (relationOf t k) e x)))
       where
         one : (k : Relation) → (leads k e x ≡ true) ⊎ (leads k e x ≡ false)
-            → (((isCondition k && leads k e x) && has conditions x) || ((isMilestone k && leads k e x) && has milestones x)) ≡ (leadsOn conditions milestones k && leads k e x)
+            → (((isCondition k && leads k e x) && has conditions x) || ((isMilestone k && leads k e x) && has milestones x))
+            ≡ (leadsOn conditions milestones k && leads k e x)
         one k (inl l) =
             let q = eqb-true (k .right) x (both (eqb (k .left) e) (eqb (k .right) x) l .1) in
             rw (l, and-true (isCondition k), and-true (isMilestone k), and-true (leadsOn conditions milestones k), q)
@@ -109,11 +113,13 @@ module _ (t : Table) (good : GoodTable t) (rows : List ℕ) (made : Derived t (t
         (fully-within t along (λ y. has r y ≡ true)
         (λ k b l h. reached .on (relationOf t k .left) (relationOf t k .right) (left-small t good k b) h (inhibitor-at k b l)) set (reached .starts) x))
       where
-        next : (e x : ℕ) → e < 64 → has (widenedFully t along set) e ≡ true → has (inhibitorsIn rows conditions milestones e) x ≡ true → has (widenedFully t along set) x ≡ true
+        next : (e x : ℕ) → e < 64 → has (widenedFully t along set) e ≡ true → has (inhibitorsIn rows conditions milestones e) x ≡ true
+            → has (widenedFully t along set) x ≡ true
         next e x b h i =
             let k = inhibitor-where e x b i in
             subst (λ (y : ℕ). has (widenedFully t along set) y ≡ true) (k .4)
-            (fully-closed t along set fits (k .0) (k .1) (good .relations-good (k .0) (k .1) .right-exists) (k .2) (ap (has (widenedFully t along set)) (k .3) ∙ h))
+            (fully-closed t along set fits (k .0) (k .1) (good .relations-good (k .0) (k .1) .right-exists) (k .2)
+            (ap (has (widenedFully t along set)) (k .3) ∙ h))
 
   -- Every inhibitor is followed.
   follows-all : (k : ℕ) → k < t .count → followed (relationOf t k) ≡ leadsOn everyEvent everyEvent (relationOf t k)
@@ -198,7 +204,8 @@ module _ (t : Table) (good : GoodTable t) (rows : List ℕ) (made : Derived t (t
     waited e b =
         set-by-test (t .events) (inhibitorsIn rows set set e) (λ f. follows t e f && has set f)
         (λ x h. has-below (t .events) set x fits (either-way (has waits x) (has awaits x) (has set x) (sym (parts set x) ∙ h)))
-        (λ x l. parts set x ∙ turn (has waits x) (has awaits x) (has set x) (every-exists x l) ∙ ap (λ (a : Bool). a && has set x) (sym (parts everyEvent x) ∙ inhibitors-follow e b x))
+        (λ x l. parts set x ∙ turn (has waits x) (has awaits x) (has set x) (every-exists x l)
+        ∙ ap (λ (a : Bool). a && has set x) (sym (parts everyEvent x) ∙ inhibitors-follow e b x))
       where
         waits : ℕ
         waits = bitOr (rowOf rows e 0) (rowOf rows e 1)

@@ -15,7 +15,7 @@ use Rattle.rules.specs.EventSet.{has, lowestOf}
 use Rattle.rules.specs.Laws.Tests.{decide, both, join, either, denied, clash, not-true, or-left, or-right, and-false}
 use Rattle.rules.specs.Laws.Counting.{Found, many-lt}
 use Rattle.rules.specs.Laws.EventSet.{has-zero}
-use Rattle.rules.specs.Laws.Words.{has-or}
+use Rattle.rules.specs.Laws.Bitwise.{has-or}
 use Rattle.duties.specs.Inhibition.{inhibitorsIn, Reached}
 use Rattle.acts.specs.Laws.Members.{lowest-found, has-rest}
 
@@ -103,7 +103,8 @@ module _ (rows : List ℕ) (conditions milestones set : ℕ) where
           }
             where
               -- an event that is opened was so before, or is the one of this turn
-              next : (f x : ℕ) → f < 64 → has wider f ≡ true → has rest f ≡ false → has (inhibitorsIn rows conditions milestones f) x ≡ true → Dec (f ≡ e) → has wider x ≡ true
+              next : (f x : ℕ) → f < 64 → has wider f ≡ true → has rest f ≡ false → has (inhibitorsIn rows conditions milestones f) x ≡ true → Dec (f ≡ e)
+                  → has wider x ≡ true
               next f x l h n i (yes q) = brought x (ap (λ (y : ℕ). has (inhibitorsIn rows conditions milestones y) x) (sym q) ∙ i)
               next f x l h n i (no d) =
                   ⊎-elim
@@ -124,7 +125,8 @@ module _ (rows : List ℕ) (conditions milestones set : ℕ) where
                   (ap not (denied (has found y) (λ q. clash (found-wider y q) (not-true (has wider y) p)))))
                   (λ p. ⊎-elim
                   (λ q. or-right (not (has found y)) (has unopened y) (q .0))
-                  (λ q. or-left (not (has found y)) (has unopened y) (both (has (inhibitorsIn rows conditions milestones e) y) (not (has found y)) (sym (new y) ∙ q) .1))
+                  (λ q. or-left (not (has found y)) (has unopened y)
+                  (both (has (inhibitorsIn rows conditions milestones e) y) (not (has found y)) (sym (new y) ∙ q) .1))
                   (rest-cases y p))
                   (either (not (has wider y)) (has rest y) h)
 

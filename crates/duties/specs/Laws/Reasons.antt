@@ -18,10 +18,10 @@ use Rattle.rules.specs.Holds.{isCondition, isResponse, isInclusion, isExclusion
 use Rattle.rules.specs.Closure.{inhibits, follows, busy}
 use Rattle.rules.specs.Check.{unreportable, uncausable, waiting, onCycle, reopening, reviving, reason}
 use Rattle.rules.specs.Laws.Tests.{clash, not-true, both, either, join, same-test}
-use Rattle.rules.specs.Laws.Counting.{Found, Lacks, some-where, some-at, lowest-cases, lowest-is, lowest-none, lowest-same}
+use Rattle.rules.specs.Laws.Counting.{some-where, some-at, lowest-cases, lowest-is, lowest-none, lowest-same}
 use Rattle.rules.specs.Laws.EventSet.{has-zero, set-has, set-holds, set-fits}
-use Rattle.rules.specs.Laws.Words.{has-or, has-and}
-use Rattle.rules.specs.Laws.Judge.{GoodTable, GoodRelation}
+use Rattle.rules.specs.Laws.Bitwise.{has-or, has-and}
+use Rattle.rules.specs.Shapes.Good.{GoodTable}
 use Rattle.rules.specs.Laws.Widened.{has-below}
 use Rattle.rules.specs.Laws.Closure.{follows-where, follows-at}
 use Rattle.acts.specs.declared.derived.Head.{Head}
@@ -32,7 +32,7 @@ use Rattle.duties.specs.Reasons.{Led, Ends, firstReason, verdictOf}
 use Rattle.acts.specs.Laws.Members.{set-by-test, lowest-found}
 use Rattle.acts.specs.Laws.Derived.{right-small}
 use Rattle.duties.specs.Laws.Sets.{isOwed}
-use Rattle.acts.specs.Laws.Sorts.{Sorts, sorts}
+use Rattle.acts.specs.Laws.Sorts.{sorts}
 use Rattle.acts.specs.Laws.Sorted.{some-either}
 use Rattle.duties.specs.Laws.Followed.{inhibitors-follow}
 use Rattle.acts.specs.Laws.Each.{some-member}
@@ -100,7 +100,8 @@ module _ (t : Table) (good : GoodTable t) (m : Marking) (rows : List ℕ) (made 
             (led-every t good rows made 3 every answers (omega arith) all led)
 
     -- an event has an inhibitor where a relation that inhibits has it as left
-    held-where : (e : ℕ) → e < t .events → not (eqb (inhibitorsIn rows everyEvent everyEvent e) 0) ≡ some (t .count) (λ k. inhibits (relationOf t k) && eqb (relationOf t k .left) e)
+    held-where : (e : ℕ) → e < t .events
+        → not (eqb (inhibitorsIn rows everyEvent everyEvent e) 0) ≡ some (t .count) (λ k. inhibits (relationOf t k) && eqb (relationOf t k .left) e)
     held-where e b = same-test _ _ there back
       where
         row : ℕ
@@ -202,7 +203,8 @@ module _ (t : Table) (closed : ℕ) where
   unfolding firstReason reviving
   first-reviving =
       lowest-same _ _ (t .count)
-      (λ k b. swapped (isInclusion (relationOf t k)) (has closed (relationOf t k .left)) _ ∙ sym (and-assoc (isInclusion (relationOf t k) && has closed (relationOf t k .left)) (has closed (relationOf t k .right)) _))
+      (λ k b. swapped (isInclusion (relationOf t k)) (has closed (relationOf t k .left)) _
+      ∙ sym (and-assoc (isInclusion (relationOf t k) && has closed (relationOf t k .left)) (has closed (relationOf t k .right)) _))
 
 module _ (t : Table) (good : GoodTable t) (rows : List ℕ) (made : Derived t (t .count) rows) (closed : ℕ) where
   led : (s w : ℕ) → s < 8 → (f : ℕ → Bool) → ((k : ℕ) → k < t .count → eqb (sortOf (relationOf t k)) s && has closed (relationOf t k .left) ≡ f k)
@@ -220,7 +222,8 @@ module _ (t : Table) (good : GoodTable t) (rows : List ℕ) (made : Derived t (t
   -- 5
   milestones-end : (w : ℕ) → Led rows 2 closed w → Ends t (λ k. isMilestone (relationOf t k) && has closed (relationOf t k .left)) w
   milestones-end w h =
-      led 2 w (omega arith) _ (λ k b. ap (λ (a : Bool). a && has closed (relationOf t k .left)) (sorts (relationOf t k) (good .relations-good k b) .milestones)) h
+      led 2 w (omega arith) _
+      (λ k b. ap (λ (a : Bool). a && has closed (relationOf t k .left)) (sorts (relationOf t k) (good .relations-good k b) .milestones)) h
 
   answers-end : (bounded eventual : ℕ) → Led rows 3 closed bounded → Led rows 4 closed eventual
       → Ends t (λ k. isResponse (relationOf t k) && has closed (relationOf t k .left)) (bitOr bounded eventual)
@@ -228,7 +231,8 @@ module _ (t : Table) (good : GoodTable t) (rows : List ℕ) (made : Derived t (t
       ends-same t _ _ (bitOr bounded eventual)
       (λ k b. sym (and-or-distrib-right (eqb (sortOf (relationOf t k)) 3) (eqb (sortOf (relationOf t k)) 4) (has closed (relationOf t k .left)))
       ∙ ap (λ (a : Bool). a && has closed (relationOf t k .left)) (sorts (relationOf t k) (good .relations-good k b) .responses))
-      (ends-or t (from t 3 closed) (from t 4 closed) bounded eventual (led-ends t good rows made 3 closed bounded (omega arith) one) (led-ends t good rows made 4 closed eventual (omega arith) other))
+      (ends-or t (from t 3 closed) (from t 4 closed) bounded eventual (led-ends t good rows made 3 closed bounded (omega arith) one)
+      (led-ends t good rows made 4 closed eventual (omega arith) other))
 
   reopening-ends : (milestones bounded eventual : ℕ) → Led rows 2 closed milestones
       → Led rows 3 closed bounded → Led rows 4 closed eventual
@@ -237,7 +241,8 @@ module _ (t : Table) (good : GoodTable t) (rows : List ℕ) (made : Derived t (t
   reopening-ends milestones bounded eventual h one other =
       ends-same t _ _ (bitAnd (bitOr bounded eventual) milestones)
       (λ k b. ap (λ (a : Bool). isResponse (relationOf t k) && has closed (relationOf t k .left) && a) (milestones-end milestones h (relationOf t k .right)))
-      (ends-and t (λ k. isResponse (relationOf t k) && has closed (relationOf t k .left)) (bitOr bounded eventual) milestones (answers-end bounded eventual one other))
+      (ends-and t (λ k. isResponse (relationOf t k) && has closed (relationOf t k .left)) (bitOr bounded eventual) milestones
+      (answers-end bounded eventual one other))
 
   first-reopening : (milestones : ℕ) → Led rows 2 closed milestones → firstReason t Reopening closed milestones ≡ lowest (t .count) (reopening t closed)
   unfolding firstReason reopening
@@ -251,7 +256,8 @@ module _ (t : Table) (good : GoodTable t) (rows : List ℕ) (made : Derived t (t
   unfolding reviving
   reviving-ends w h =
       ends-same t _ _ (bitAnd w closed)
-      (λ k b. ap (λ (a : Bool). a && has closed (relationOf t k .left) && has closed (relationOf t k .right)) (sorts (relationOf t k) (good .relations-good k b) .inclusions)
+      (λ k b. ap (λ (a : Bool). a && has closed (relationOf t k .left) && has closed (relationOf t k .right))
+      (sorts (relationOf t k) (good .relations-good k b) .inclusions)
       ∙ ap (λ (a : Bool). a && has closed (relationOf t k .right)) (turned (isInclusion (relationOf t k)) _ (has closed (relationOf t k .left)))
       ∙ turned (isInclusion (relationOf t k) && has closed (relationOf t k .left)) _ (has closed (relationOf t k .right)))
       (ends-and t (from t 5 closed) w closed (led-ends t good rows made 5 closed w (omega arith) h))

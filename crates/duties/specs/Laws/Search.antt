@@ -18,11 +18,9 @@ pub record Searched (f : ℕ → Bool) (set left : ℕ) : Type 0 where
   pub within : (x : ℕ) → has left x ≡ true → has set x ≡ true
   pub passed : (x : ℕ) → has left x ≡ false → f x ≡ false
 
-pub searched-start : (f : ℕ → Bool) (set : ℕ) → ((x : ℕ) → has set x ≡ false → f x ≡ false) → Searched f set set
-searched-start f set out = record { within = λ x h. h; passed = out }
-
 -- and without some of the events, if the test holds at none of these
-pub searched-but : (f : ℕ → Bool) (set others left : ℕ) → ((x : ℕ) → has set x ≡ false → f x ≡ false) → ((x : ℕ) → has set x ≡ true → has others x ≡ true → f x ≡ false)
+pub searched-but : (f : ℕ → Bool) (set others left : ℕ) → ((x : ℕ) → has set x ≡ false → f x ≡ false)
+    → ((x : ℕ) → has set x ≡ true → has others x ≡ true → f x ≡ false)
     → ((x : ℕ) → has left x ≡ (has set x && not (has others x))) → Searched f set left
 searched-but f set others left out fails made = record {
   within = λ x h. both (has set x) (not (has others x)) (sym (made x) ∙ h) .0;

@@ -16,7 +16,7 @@ use Rattle.rules.specs.Effect.{effect}
 use Rattle.rules.specs.Time.{time, plainTickNumber}
 use Rattle.rules.specs.Check.{verdict}
 use Rattle.rules.specs.Guard.{guarded}
-use Rattle.rules.specs.Laws.Ask.{askNumber}
+use Rattle.rules.specs.Shapes.Asked.{askNumber}
 use Rattle.rules.specs.Laws.Trace.{turned, turned-ask, turned-tick, turned-guarded, turned-wrong, wrong-event, wrong-kind}
 use Rattle.duties.specs.declared.step.Stepped.{Stepped}
 use Rattle.acts.specs.Stands.{Stands}

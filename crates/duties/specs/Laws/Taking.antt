@@ -6,7 +6,6 @@ use mathlib.Core.List.{List, [], _∷_, _++_, append-nil}
 use Prim.Native.Nat.{ℕ, zero, suc, _<_, _≤_, _+_, _-_, _^_}
 use native.Mathlib.Omega.{arith}
 use native.Mathlib.Numerals.{add-one}
-use lib.Dec.{ltb}
 use lib.ListN.{length, getD, set, drop, replicate, length-append}
 use lib.Seq.{append-snoc, set-at, drop-cons}
 use borrow.Author.Tests.{lt-ltb, le-ltb}
@@ -19,18 +18,18 @@ use Rattle.rules.specs.EventSet.{has, lowestOf}
 use Rattle.rules.specs.Holds.{recordOf}
 use Rattle.rules.specs.Effect.{effect}
 use Rattle.rules.specs.Time.{time}
-use Rattle.rules.specs.Guard.{ready, orderOf, order, taken, takenAll, executedOf, caused, guarded, needed}
+use Rattle.rules.specs.Guard.{ready, orderOf, taken, takenAll, executedOf, caused, guarded, needed}
 use Rattle.rules.specs.Laws.Tests.{both}
 use Rattle.rules.specs.Laws.Counting.{lowest-none}
 use Rattle.rules.specs.Laws.EventSet.{has-zero}
 use Rattle.rules.specs.Laws.Needed.{needed-fits}
 use Rattle.rules.specs.Laws.Order.{order-length}
-use Rattle.rules.specs.Laws.Judge.{GoodTable}
+use Rattle.rules.specs.Shapes.Good.{GoodTable}
 use Rattle.rules.specs.Laws.Widened.{has-below}
 use Rattle.acts.specs.Derived.{Derived, Linked}
 use Rattle.duties.specs.Inhibition.{readyIn}
 use Rattle.acts.specs.Stands.{Stands}
-use Rattle.duties.specs.Noted.{Told}
+use Rattle.duties.specs.AtStart.{AtStart}
 use Rattle.duties.specs.Taking.{answered, noted, takenOne, carriedOn, stateOf, TakenOne}
 use Rattle.acts.specs.Laws.Stands.{stands-events, tick-stands}
 use Rattle.duties.specs.Laws.Followed.{ready-is}
@@ -155,7 +154,7 @@ module _ (t : Table) (before : List ℕ) where
   -- at the end of the order
   carried-is : (m after : Marking) (list : List ℕ) (count needed : ℕ) → t .events ≤ length before
       → stateOf after list count ≡ carriedOn t (stateOf m before 0) (orderOf t (t .events) needed)
-      → (after ≡ takenAll t m (orderOf t (t .events) needed)) × Told (executedOf t m (orderOf t (t .events) needed)) before count list
+      → (after ≡ takenAll t m (orderOf t (t .events) needed)) × AtStart (executedOf t m (orderOf t (t .events) needed)) before count list
   carried-is m after list count needed room q =
       let whole = orderOf t (t .events) needed in
       let all = q ∙ carried-told [] m whole (omega (arith, order-length t (t .events) needed)) in
@@ -177,7 +176,7 @@ lent good derived linked sized fits = record { good = good; derived = derived; l
 -- the end: the words stand for the marking after the whole order, and its executed events are told
 abbrev pub TakenAll : Table → ℕ → List Record → ℕ → ℕ → Marking → List ℕ → List ℕ → List ℕ → List ℕ → ℕ → Type 0
 TakenAll t n tail clock needed m before sets columns list count =
-    Stands n tail clock sets columns (takenAll t m (orderOf t n needed)) × Told (executedOf t m (orderOf t n needed)) before count list
+    Stands n tail clock sets columns (takenAll t m (orderOf t n needed)) × AtStart (executedOf t m (orderOf t n needed)) before count list
 
 -- on the way: the words stand for a marking from which what is left leads to the same end as from m
 abbrev pub Underway : Table → List Record → ℕ → ℕ → Marking → List ℕ → List ℕ → List ℕ → List ℕ → ℕ → ℕ → ℕ → Type 0
@@ -217,7 +216,8 @@ module _ {t : Table} {rows links : List ℕ} {n needed : ℕ} (l : Lent t rows l
           subst (λ (k : ℕ). TakenAll t k tail clock needed m before sets columns list count) (l .sized)
           (subst (Stands (t .events) tail clock sets columns) (done .0) (u .1), done .1)
 
-      pub underway-none : lowest (t .events) (ready t untaken) ≡ t .events → length before ≡ 64 → TakenAll t n tail clock needed m before sets columns list count
+      pub underway-none : lowest (t .events) (ready t untaken) ≡ t .events → length before ≡ 64
+          → TakenAll t n tail clock needed m before sets columns list count
       underway-none q = ended (order-none t untaken (t .events - i) q)
 
       pub underway-end : n ≤ i → length before ≡ 64 → TakenAll t n tail clock needed m before sets columns list count
@@ -234,16 +234,16 @@ module _ (t : Table) (n : ℕ) (sized : t .events ≡ n) (tail : List Record) (c
   where
     pub guarded-is : (sets columns list : List ℕ) (count : ℕ)
         → TakenAll t n tail clock untaken m before sets columns list count
-        → Stands n tail (clock + 1) sets columns (guarded t m) × Told (caused t m) before count list
+        → Stands n tail (clock + 1) sets columns (guarded t m) × AtStart (caused t m) before count list
     unfolding guarded caused
     guarded-is sets columns list count taken =
-        subst (λ (l : List ℕ). Stands n tail (clock + 1) sets columns (time (takenAll t m l)) × Told (executedOf t m l) before count list)
+        subst (λ (l : List ℕ). Stands n tail (clock + 1) sets columns (time (takenAll t m l)) × AtStart (executedOf t m l) before count list)
         (ap (λ (k : ℕ). orderOf t k untaken) (sym sized) ∙ ap (orderOf t (t .events)) is-needed)
         (tick-stands n tail clock sets columns (takenAll t m (orderOf t n untaken)) (taken .0), taken .1)
 
     -- with nothing needed nothing is taken
     pub guarded-none : untaken ≡ 0 → (sets columns : List ℕ) → Stands n tail clock sets columns m
-        → Stands n tail (clock + 1) sets columns (guarded t m) × Told (caused t m) before 0 before
+        → Stands n tail (clock + 1) sets columns (guarded t m) × AtStart (caused t m) before 0 before
     unfolding takenAll executedOf
     guarded-none none sets columns stands =
         guarded-is sets columns before 0
@@ -258,7 +258,7 @@ drop-zeros n zero = let e : n ≡ n - 0 = omega arith in ap zeros e
 drop-zeros zero (suc k) = let e : 0 ≡ 0 - suc k = omega arith in ap zeros e
 drop-zeros (suc n) (suc k) = let e : n - k ≡ suc n - suc k = omega arith in drop-zeros n k ∙ ap zeros e
 
-pub answered-is : (events : List ℕ) (after later : Marking) {list : List ℕ} {count : ℕ} → Told events (zeros 64) count list → later ≡ after
+pub answered-is : (events : List ℕ) (after later : Marking) {list : List ℕ} {count : ℕ} → AtStart events (zeros 64) count list → later ≡ after
     → stateOf later list count ≡ answered 0 0 0 events after
 answered-is events after later told-so given =
     rw (given, told-so .counted, told-so .put ∙ ap (λ (l : List ℕ). events ++ l) (drop-zeros 64 (length events)))

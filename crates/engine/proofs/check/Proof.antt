@@ -2,6 +2,7 @@
 use mathlib.Core.Path.{_≡_, _∙_, sym, refl}
 use borrow.Author.Needs.{needs}
 use Rattle.rules.specs.Judge.{judged}
+use Rattle.rules.specs.Laws.InNumbers.{check-whole}
 use Rattle.engine.specs.Laws.Judging.{unused, judged-by, table-good, few-records, some-events, laid-out}
 use Rattle.duties.specs.Laws.Checked.{check-judged, check-refused}
 use Rattle.engine.proofs.check.Statement.{statement}
@@ -46,12 +47,14 @@ returns c =
     let judging = laid .before .before .before .before .before .before in
     let a = judging .before .before .before .args in
     let d = granted judging in
-    c .verdict .ensures
-    ∙ c .before .found .ensures (a .t) (unused (a .m)) 0 _ (a .m) (table-good _ _ d) (laid .before .before .before .derived .ensures .0) (c .before .before .before .head-of .ensures) (laid-out (a .t) (a .m) d (laid .lay .ensures))
-    ∙ sym (check-judged _ _ d)
+    check-whole _ _
+    (c .verdict .ensures
+    ∙ c .before .found .ensures (a .t) (unused (a .m)) 0 _ (a .m) (table-good _ _ d) (laid .before .before .before .derived .ensures .0)
+    (c .before .before .before .head-of .ensures) (laid-out (a .t) (a .m) d (laid .lay .ensures))
+    ∙ sym (check-judged _ _ d))
 
 returns-2 : tie.Need-returns-2
-returns-2 c = sym (check-refused _ _ _ (number (c .before)) (c .if1 .left))
+returns-2 c = check-whole _ _ (sym (check-refused _ _ _ (number (c .before)) (c .if1 .left)))
 
 pub check-spec : {M : Type 1} → statement M
 check-spec =

@@ -1,17 +1,18 @@
--- Judged first, then the closure of the busy events, by words. Assumes nothing.
+-- Judged first, then the closure of the busy events, by words, and its size. Assumes nothing.
 use mathlib.Core.Path.{_≡_, _∙_, ap, sym, refl}
 use Prim.Native.Nat.{ℕ}
 use borrow.Author.Needs.{needs}
 use borrow.Author.Tests.{ne-eqb}
-use Rattle.rules.specs.declared.SetAnswer.{SetAnswer}
+use Rattle.rules.specs.declared.ClosureAnswer.{ClosureAnswer}
+use Rattle.rules.specs.EventSet.{sizeOf}
 use Rattle.rules.specs.Judge.{judged}
 use Rattle.rules.specs.Closure.{closure, closureAnswer}
 use Rattle.engine.specs.Laws.Judging.{unused, judged-by, table-good, few-records, some-events, laid-out}
 use Rattle.engine.proofs.closure.Statement.{statement}
 use Rattle.engine.proofs.closure.Tie as tie
 
-abbrev number-set : ℕ → ℕ → SetAnswer
-number-set number set = record { number = number; set = set }
+abbrev answer : ℕ → ℕ → ClosureAnswer
+answer set size = record { number = 0; set = set; size = size }
 
 judge-table-requires : tie.Need-judge-table-requires
 judge-table-requires c κs = search needs
@@ -39,16 +40,22 @@ closure-requires c κs =
     let d = granted (c .before .before .before .before .before .before .before .before) in
     (some-events _ _ d, table-good _ _ d .few-events, c .before .before .before .before .before .derived .ensures .0 .size)
 
+size-requires : tie.Need-size-requires
+size-requires c κs = search needs
+
 returns : tie.Need-returns
 unfolding closureAnswer
 returns c =
-    let laid = c .before .before .before in
+    let laid = c .before .before .before .before in
     let judging = laid .before .before .before .before .before .before in
     let a = judging .before .before .before .args in
     let d = granted judging in
-    let found : number-set 0 (c .closure .result) ≡ number-set 0 (closure (a .t) (a .m)) =
-    ap (number-set 0) (c .closure .ensures (a .t) (unused (a .m)) 0 _ (a .m) (table-good _ _ d) (laid .before .before .before .derived .ensures .0) refl (laid-out (a .t) (a .m) d (laid .lay .ensures))) in
-    rw d found
+    let found : c .before .closure .result ≡ closure (a .t) (a .m) =
+    c .before .closure .ensures (a .t) (unused (a .m)) 0 _ (a .m) (table-good _ _ d) (laid .before .before .before .derived .ensures .0) refl
+    (laid-out (a .t) (a .m) d (laid .lay .ensures)) in
+    let sized : answer (c .before .closure .result) (c .size .result) ≡ answer (closure (a .t) (a .m)) (sizeOf (closure (a .t) (a .m))) =
+    ap (answer (c .before .closure .result)) (c .size .ensures) ∙ ap (λ (set : ℕ). answer set (sizeOf set)) found in
+    rw d sized
 
 returns-2 : tie.Need-returns-2
 unfolding closureAnswer
@@ -66,5 +73,6 @@ closure-spec =
     lay-requires
     slice-aggregate-closure
     closure-requires
+    size-requires
     returns
     returns-2)

@@ -5,7 +5,7 @@ use borrow.Author.Needs.{needs}
 use Rattle.rules.specs.Numbers.{_else_}
 use Rattle.rules.specs.Judge.{judged, eventNumber}
 use Rattle.rules.specs.Enabled.{enabledAnswer}
-use Rattle.rules.specs.Laws.Told.{event-told}
+use Rattle.rules.specs.Laws.Granted.{event-told}
 use Rattle.engine.specs.Laws.Judging.{judged-by, event-by}
 use Rattle.engine.proofs.enabled.Statement.{statement}
 use Rattle.engine.proofs.enabled.Tie as tie
@@ -19,7 +19,10 @@ then-marking-requires c κs = search needs
 then-event-requires : tie.Need-then-event-requires
 then-event-requires c κs = search needs
 
-event-number : (c : tie.After-then-event) → c .then-event .result ≡ (judged (c .before .before .before .args .t) (c .before .before .before .args .m) else eventNumber (c .before .before .before .args .t) (c .before .before .before .args .event))
+event-number : (c : tie.After-then-event)
+    → c .then-event .result
+    ≡ (judged (c .before .before .before .args .t) (c .before .before .before .args .m)
+    else eventNumber (c .before .before .before .args .t) (c .before .before .before .args .event))
 event-number c = event-by _ _ _ (judged-by _ _ (c .before .before .judge-table .ensures) (c .before .then-marking .ensures)) (c .then-event .ensures)
 
 is-enabled-requires : tie.Need-is-enabled-requires

@@ -1,5 +1,5 @@
 -- Judged first, then by the verdict that the words come to; what is accepted is done in the words, and given back. Assumes nothing.
-use mathlib.Core.Path.{_≡_, _∙_, ap, sym, refl}
+use mathlib.Core.Path.{_≡_, _∙_, sym, refl}
 use native.Mathlib.Omega.{arith}
 use borrow.Author.Needs.{needs}
 use Rattle.rules.specs.Judge.{judged}
@@ -11,6 +11,39 @@ use Rattle.duties.specs.Laws.Taking.{answered-is}
 use Rattle.duties.specs.Laws.Checked.{tick-unjudged, tick-refused, tick-rejected, tick-accepted}
 use Rattle.engine.proofs.guarded_tick.Statement.{statement}
 use Rattle.engine.proofs.guarded_tick.Tie as tie
+
+-- The places that the proof looks back to, each from a later one: where the call begins, where the values are judged, where the rows are made,
+-- the words laid out and the head known; then where the verdict is come to, from where it has refused, has rejected, and is known to accept.
+abbrev start : tie.Else1 → tie.Start
+start c = c .before .before .before
+
+abbrev judged-at : tie.After-derived → tie.Else1
+judged-at c = c .before .before .before
+
+abbrev made : tie.After-lay → tie.After-derived
+made c = c .before .before .before
+
+abbrev laid : tie.After-head-of → tie.After-lay
+laid c = c .before .before
+
+abbrev known : tie.After-verdict → tie.After-head-of
+known c = c .before .before .before
+
+abbrev refused : tie.After-nothing2 → tie.After-verdict
+refused c = c .before .before .before .before
+
+abbrev rejected : tie.After-nothing3 → tie.After-verdict
+rejected c = c .before .before .before .before
+
+abbrev accepted : tie.After-caused → tie.After-enum-told
+accepted c = c .before .before .before .before .before
+
+-- where the values are judged, from where the head is known; where the verdict is come to, from where the events are caused
+abbrev judging : tie.After-head-of → tie.Else1
+judging c = judged-at (made (laid c))
+
+abbrev checked : tie.After-caused → tie.After-verdict
+checked c = accepted c .before .before
 
 judge-table-requires : tie.Need-judge-table-requires
 judge-table-requires c κs = search needs
@@ -27,14 +60,14 @@ number c = judged-by _ _ (c .before .judge-table .ensures) (c .then-marking .ens
 returns : tie.Need-returns
 returns c = c .nothing .ensures ∙ tick-unjudged _ _ (number (c .before .before)) (c .before .if1 .taken)
 
-granted : (c : tie.Else1) → judged (c .before .before .before .args .t) (c .before .before .before .args .m) ≡ 0
+granted : (c : tie.Else1) → judged (start c .args .t) (start c .args .m) ≡ 0
 granted c = sym (number (c .before)) ∙ c .if1 .left
 
 derived-requires : tie.Need-derived-requires
 derived-requires c κs = (table-good _ _ (granted (c .before .before)), (refl, refl))
 
 lay-requires : tie.Need-lay-requires
-lay-requires c κs = (few-records _ _ (granted (c .before .before .before .before .before)), (refl, refl))
+lay-requires c κs = (few-records _ _ (granted (judged-at (c .before .before))), (refl, refl))
 
 slice-aggregate-found : tie.Need-slice-aggregate-found
 slice-aggregate-found c = search needs
@@ -44,26 +77,21 @@ head-of-requires c κs = search needs
 
 found-requires : tie.Need-found-requires
 found-requires c κs =
-    let d = granted (c .before .before .before .before .before .before .before .before .before) in
+    let d = granted (judging (c .before)) in
     let head = c .before .head-of .ensures in
-    (rw head (some-events _ _ d), rw head (table-good _ _ d .few-events), c .before .before .before .before .before .before .derived .ensures .0 .size)
+    (rw head (some-events _ _ d), rw head (table-good _ _ d .few-events), made (laid (c .before)) .derived .ensures .0 .size)
 
 verdict-requires : tie.Need-verdict-requires
-verdict-requires c κs = table-good _ _ (granted (c .before .before .before .before .before .before .before .before .before .before))
+verdict-requires c κs = table-good _ _ (granted (judging (c .before .before)))
 
--- the words that were laid out, and the verdict
-abbrev laying : tie.After-verdict → tie.After-lay
-laying c = c .before .before .before .before .before
-
-abbrev judging : tie.After-verdict → tie.Else1
-judging c = c .before .before .before .before .before .before .before .before .before .before .before
-
-told : (c : tie.After-verdict) → c .verdict .result ≡ verdict (judging c .before .before .before .args .t) (judging c .before .before .before .args .m)
+told : (c : tie.After-verdict) → let a = start (judging (known c)) .args in c .verdict .result ≡ verdict (a .t) (a .m)
 told c =
-    let a = judging c .before .before .before .args in
-    let d = granted (judging c) in
+    let at = laid (known c) in
+    let a = start (judging (known c)) .args in
+    let d = granted (judging (known c)) in
+    let stands = laid-out (a .t) (a .m) d (at .lay .ensures) in
     c .verdict .ensures
-    ∙ c .before .found .ensures (a .t) (unused (a .m)) 0 _ (a .m) (table-good _ _ d) (laying c .before .before .before .derived .ensures .0) (c .before .before .before .head-of .ensures) (laid-out (a .t) (a .m) d (laying c .lay .ensures))
+    ∙ c .before .found .ensures (a .t) (unused (a .m)) 0 _ (a .m) (table-good _ _ d) (made at .derived .ensures .0) (known c .head-of .ensures) stands
 
 enum-known-verdict : tie.Need-enum-known-verdict
 enum-known-verdict c = search needs
@@ -88,34 +116,37 @@ slice-aggregate-guarded-2 c = search needs
 
 guarded-requires : tie.Need-guarded-requires
 guarded-requires c κs =
-    let made = c .before .before .before .before .before .before .before .before .before .before .before .before .before .before .before in
-    let d = granted (made .before .before .before) in
-    (some-events _ _ d, table-good _ _ d .few-events, made .derived .ensures .0 .size, made .derived .ensures .1 .size, omega arith)
+    let words = made (laid (known (checked c))) .derived .ensures in
+    let d = granted (judging (known (checked c))) in
+    (some-events _ _ d, table-good _ _ d .few-events, words .0 .size, words .1 .size, omega arith)
 
 tick-requires : tie.Need-tick-requires
 tick-requires c κs = omega arith
 
 give-requires : tie.Need-give-requires
-give-requires c κs = few-records _ _ (granted (c .before .before .before .before .before .before .before .before .before .before .before .before .before .before .before .before .before .before .before .before .before .before))
+give-requires c κs = few-records _ _ (granted (judging (known (checked (c .before .before .before .before)))))
 
 returns-2 : tie.Need-returns-2
 returns-2 c =
-    let v = c .before .before .before .before in
-    c .nothing2 .ensures ∙ tick-refused _ _ (granted (judging v)) _ (sym (told v) ∙ c .before .before .verdict2 .given .1)
+    let v = refused c in
+    c .nothing2 .ensures ∙ tick-refused _ _ (granted (judging (known v))) _ (sym (told v) ∙ c .before .before .verdict2 .given .1)
 
 returns-3 : tie.Need-returns-3
 returns-3 c =
-    let v = c .before .before .before .before in
-    c .nothing3 .ensures ∙ tick-rejected _ _ (granted (judging v)) _ _ (sym (told v) ∙ c .before .before .verdict3 .given .1)
+    let v = rejected c in
+    c .nothing3 .ensures ∙ tick-rejected _ _ (granted (judging (known v))) _ _ (sym (told v) ∙ c .before .before .verdict3 .given .1)
 
 returns-4 : tie.Need-returns-4
 returns-4 c =
-    let v = c .before .before .before .before .before .before .before .before .before .before .before .before in
-    let a = judging v .before .before .before .args in
-    let d = granted (judging v) in
-    let made = laying v .before .before .before .derived .ensures in
-    let accepts : verdict (a .t) (a .m) ≡ Accepts = sym (told v) ∙ c .before .before .before .before .before .before .before .before .before .before .enum-told .given .1 in
-    let g = c .before .before .before .before .guarded .ensures (a .t) (unused (a .m)) (a .m) (table-good _ _ d) (made .0) (made .1) refl refl (laid-out (a .t) (a .m) d (laying v .lay .ensures)) in
+    let done = c .before .before .before .before in
+    let v = checked (done .before) in
+    let at = laid (known v) in
+    let a = start (judging (known v)) .args in
+    let d = granted (judging (known v)) in
+    let words = made at .derived .ensures in
+    let accepts : verdict (a .t) (a .m) ≡ Accepts = sym (told v) ∙ accepted (done .before) .enum-told .given .1 in
+    let stands = laid-out (a .t) (a .m) d (at .lay .ensures) in
+    let g = done .guarded .ensures (a .t) (unused (a .m)) (a .m) (table-good _ _ d) (words .0) (words .1) refl refl stands in
     let next = rw (← c .before .before .before .tick .ensures .1) at (g .0) in
     answered-is (caused (a .t) (a .m)) (guarded (a .t) (a .m)) _ (g .1)
     (given-back (a .t) (a .m) d _ _ _ (c .give .ensures) next)

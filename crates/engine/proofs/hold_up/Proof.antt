@@ -5,7 +5,8 @@ use borrow.Author.Needs.{needs}
 use Rattle.rules.specs.Numbers.{_else_}
 use Rattle.rules.specs.Judge.{judged, eventNumber}
 use Rattle.rules.specs.HoldUp.{holdUp}
-use Rattle.rules.specs.Laws.Told.{event-told}
+use Rattle.rules.specs.Laws.Granted.{event-told}
+use Rattle.rules.specs.Laws.InNumbers.{hold-up-whole}
 use Rattle.engine.specs.Laws.Judging.{judged-by, event-by}
 use Rattle.engine.proofs.hold_up.Statement.{statement}
 use Rattle.engine.proofs.hold_up.Tie as tie
@@ -19,7 +20,10 @@ then-marking-requires c κs = search needs
 then-event-requires : tie.Need-then-event-requires
 then-event-requires c κs = search needs
 
-event-number : (c : tie.After-then-event) → c .then-event .result ≡ (judged (c .before .before .before .args .t) (c .before .before .before .args .m) else eventNumber (c .before .before .before .args .t) (c .before .before .before .args .event))
+event-number : (c : tie.After-then-event)
+    → c .then-event .result
+    ≡ (judged (c .before .before .before .args .t) (c .before .before .before .args .m)
+    else eventNumber (c .before .before .before .args .t) (c .before .before .before .args .event))
 event-number c = event-by _ _ _ (judged-by _ _ (c .before .before .judge-table .ensures) (c .before .then-marking .ensures)) (c .then-event .ensures)
 
 holding-requires : tie.Need-holding-requires
@@ -27,11 +31,11 @@ holding-requires c κs = event-told _ _ _ (sym (event-number (c .before)) ∙ c 
 
 returns : tie.Need-returns
 unfolding holdUp
-returns c = rw (sym (event-number (c .before .before)) ∙ c .before .if1 .taken) (c .holding .ensures)
+returns c = hold-up-whole _ _ _ (rw (sym (event-number (c .before .before)) ∙ c .before .if1 .taken) (c .holding .ensures))
 
 returns-2 : tie.Need-returns-2
 unfolding holdUp
-returns-2 c = rw (← event-number (c .before), ne-eqb _ _ (c .if1 .left))
+returns-2 c = hold-up-whole _ _ _ (rw (← event-number (c .before), ne-eqb _ _ (c .if1 .left)))
 
 pub hold-up-spec : {M : Type 1} → statement M
 hold-up-spec =

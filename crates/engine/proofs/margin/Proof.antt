@@ -1,4 +1,5 @@
--- `margin`: the judge's number, 8 where there is no such relation, else the margin of the relation; the judge has bounded the age and the time. Assumes nothing.
+-- `margin`: the judge's number, 8 where there is no such relation, else the margin of the relation; the judge has bounded the age and the time.
+-- Assumes nothing.
 use mathlib.Core.Path.{_≡_, sym, _∙_}
 use mathlib.Core.Bool.{not}
 use native.Mathlib.Omega.{arith}
@@ -8,8 +9,10 @@ use lib.Dec.{ltb}
 use Rattle.rules.specs.Numbers.{_if_}
 use Rattle.rules.specs.Judge.{judged}
 use Rattle.rules.specs.Margin.{margin}
-use Rattle.rules.specs.Laws.Judge.{Good, good}
-use Rattle.rules.specs.Laws.Told.{right-told, margin-told, stands}
+use Rattle.rules.specs.Shapes.Good.{Good}
+use Rattle.rules.specs.Laws.Judge.{good}
+use Rattle.rules.specs.Laws.Granted.{right-told, margin-told, stands}
+use Rattle.rules.specs.Laws.InNumbers.{margin-whole}
 use Rattle.engine.specs.Laws.Judging.{judged-by}
 use Rattle.engine.proofs.margin.Statement.{statement}
 use Rattle.engine.proofs.margin.Tie as tie
@@ -48,17 +51,18 @@ returns : tie.Need-returns
 unfolding margin
 returns c =
     let s = c .before .before .before .before .before in
-    rw (sym (number (s .before)) ∙ s .if1 .taken, lt-ltb _ _ (c .before .before .before .before .if2 .taken)) (c .margin-of .ensures)
+    margin-whole _ _ _
+    (rw (sym (number (s .before)) ∙ s .if1 .taken, lt-ltb _ _ (c .before .before .before .before .if2 .taken)) (c .margin-of .ensures))
 
 returns-2 : tie.Need-returns-2
 unfolding margin
-returns-2 c = rw (sym (number (c .before .before)) ∙ c .before .if1 .taken, le-ltb _ _ (c .if2 .left))
+returns-2 c = margin-whole _ _ _ (rw (sym (number (c .before .before)) ∙ c .before .if1 .taken, le-ltb _ _ (c .if2 .left)))
 
 returns-3 : tie.Need-returns-3
 unfolding margin
 returns-3 c =
     let next = 8 if not (ltb (c .before .before .before .args .relation) (c .before .before .before .args .t1 .count)) in
-    rw (← stands next (number (c .before)) (c .if1 .left), ne-eqb _ _ (c .if1 .left))
+    margin-whole _ _ _ (rw (← stands next (number (c .before)) (c .if1 .left), ne-eqb _ _ (c .if1 .left)))
 
 pub margin-spec : {M : Type 1} → statement M
 margin-spec =

@@ -5,7 +5,8 @@ use borrow.Author.Needs.{needs}
 use Rattle.rules.specs.Judge.{judged}
 use Rattle.rules.specs.Time.{dueSet, time}
 use Rattle.acts.specs.Laws.Due.{tick-goes, tick-held}
-use Rattle.engine.specs.Laws.Judging.{unused, judged-by, table-good, few-records, some-events, laid-out, given-back, acted-done, acted-refused, tick-judged, tick-unjudged}
+use Rattle.engine.specs.Laws.Judging.{unused, judged-by, table-good, few-records, some-events, laid-out, given-back, acted-done, acted-refused}
+use Rattle.engine.specs.Laws.Judging.{tick-judged, tick-unjudged}
 use Rattle.engine.proofs.plain_tick.Statement.{statement}
 use Rattle.engine.proofs.plain_tick.Tie as tie
 
@@ -32,7 +33,8 @@ due-requires c κs =
 due-told : (c : tie.After-due) → c .due .result ≡ dueSet (c .before .before .before .before .before .before .before .before .before .args .m)
 due-told c =
     let a = c .before .before .before .before .before .before .before .before .before .args in
-    c .due .ensures (unused (a .m)) (a .m) (laid-out (a .t) (a .m) (granted (c .before .before .before .before .before .before)) (c .before .before .before .lay .ensures))
+    c .due .ensures (unused (a .m)) (a .m)
+    (laid-out (a .t) (a .m) (granted (c .before .before .before .before .before .before)) (c .before .before .before .lay .ensures))
 
 tick-requires : tie.Need-tick-requires
 tick-requires c κs = omega arith

@@ -1,36 +1,38 @@
 -- What the station's call writes, part by part: the answer to the whole input goes by the table, then the marking, then the steps, and of the
--- bytes beyond the kept ones only the number counts. Assumes nothing.
+-- bytes beyond the kept ones only the number counts. It is a byte or more. Assumes nothing.
 use mathlib.Core.Path.{_≡_, refl, _∙_, ap, sym, subst}
-use mathlib.Core.Bool.{Bool, true, false, not, _&&_, _||_}
+use mathlib.Core.Bool.{Bool, true, false, not, _||_, cond}
 use mathlib.Core.List.{List, [], _∷_, _++_, append-nil, append-assoc}
 use mathlib.Core.Logic.{_⊎_, ⊎-elim, inl, inr}
 use Prim.Native.Nat.{ℕ, zero, suc, _<_, _≤_, _+_, _-_, _*_, _/_, _%_, min}
 use native.Mathlib.Omega.{arith}
 use lib.Dec.{eqb, leb, ltb}
 use lib.ListN.{length, take, drop, getD, set, replicate, length-append, length-take, length-drop, length-replicate, drop-of-length-le}
-use lib.Seq.{take-all, take-take, take-append-le, take-at, drop-at, drop-drop}
-use borrow.Author.Tests.{eqb-true, eqb-false, ne-eqb, ltb-false, lt-ltb, le-ltb, leb-true, leb-false}
+use lib.Seq.{take-all, take-append-le, take-at, drop-at, drop-drop}
+use borrow.Author.Tests.{eqb-true, eqb-false, ne-eqb, lt-ltb, leb-true, leb-false}
 use Rattle.rules.specs.declared.Table.{Table}
 use Rattle.rules.specs.declared.Marking.{Marking}
 use Rattle.rules.specs.declared.TableAnswer.{TableAnswer}
 use Rattle.rules.specs.declared.MarkingAnswer.{MarkingAnswer}
+use Rattle.engine.specs.declared.StationAnswer.{StationAnswer}
 use Rattle.rules.specs.Numbers.{_if_, _else_, done}
 use Rattle.rules.specs.Holds.{mostEvents}
 use Rattle.rules.specs.Fields.{field}
 use Rattle.rules.specs.Judge.{eventsFit, tableNumber, markingNumber, markingNumberFor, judged}
 use Rattle.rules.specs.Image.{recordBytes, eventsIn, readTable, readMarking, markingImage, writeNumber, writeMarking}
 use Rattle.rules.specs.Trace.{mostSteps, traceNumber, stepsIn, endOf, answersOf}
-use Rattle.rules.specs.Station.{station}
-use Rattle.rules.specs.Laws.Tests.{decide, neither}
+use Rattle.rules.specs.Station.{tableBytes, station, longestMarking, longestSteps, longestInput, longestOutput, heardNumber, heardBytes, heardOutput}
+use Rattle.rules.specs.Laws.Tests.{decide}
 use Rattle.rules.specs.Laws.Numbers.{both-done}
 use Rattle.rules.specs.Laws.Judge.{good}
 use Rattle.rules.specs.Laws.Fields.{field-lt, field-join, byte-field}
 use Rattle.rules.specs.Laws.Trace.{answers-length, steps-length, end-judged, bytes-granted}
-use Rattle.rules.specs.Laws.Station.{longestMarking, longestSteps, longest, tableBytes, tablePart, markingPart, stepsPart, numberOf, stationNumber, station-is, too-long, granted-short, header-small, field-take, table-events, table-short, table-same, events-same, number-by, steps-left, same-answer}
-use Rattle.image.specs.Laws.Records.{image-length}
-use Rattle.image.specs.Laws.Written.{number-done, bytes-written}
-use Rattle.engine.specs.Heard.{longestOutput, misused, written, afterMarking, afterTable}
-use Rattle.duties.specs.Noted.{Told}
+use Rattle.rules.specs.Station.{tablePart, markingPart, stepsPart}
+use Rattle.rules.specs.Laws.Station.{numberOf, stationNumber, station-is, too-long, granted-short, header-small}
+use Rattle.rules.specs.Laws.Station.{field-take, table-events, table-short, table-same, events-same, number-by, steps-left, heard-enough, heard-within}
+use Rattle.rules.specs.Laws.Written.{image-length, number-done, bytes-written}
+use Rattle.engine.specs.Heard.{afterMarking, afterTable}
+use Rattle.duties.specs.AtStart.{AtStart}
 
 -- a part of what is there
 pub take-least : (n : ℕ) (l : List ℕ) → take (min n (length l)) l ≡ take n l
@@ -57,18 +59,6 @@ drop-least n l = go (leb n (length l)) refl
 pub to-end : (n : ℕ) (l : List ℕ) → take (length l - n) (drop n l) ≡ drop n l
 to-end n l = take-all (length l - n) (drop n l) (omega (arith, length-drop n l))
 
--- A call that is not misused
-pub used-right : (kept beyond room : ℕ) → misused kept beyond room ≡ false → (longestOutput ≤ room) × ((beyond ≡ 0) ⊎ (longest ≤ kept))
-unfolding misused
-used-right kept beyond room h = (ltb-false room longestOutput (p .0), go (eqb beyond 0) refl (p .1))
-  where
-    p : (ltb room longestOutput ≡ false) × (not (eqb beyond 0) && ltb kept longest ≡ false)
-    p = neither (ltb room longestOutput) (not (eqb beyond 0) && ltb kept longest) h
-
-    go : (none : Bool) → eqb beyond 0 ≡ none → not none && ltb kept longest ≡ false → (beyond ≡ 0) ⊎ (longest ≤ kept)
-    go true e q = inl (eqb-true beyond 0 e)
-    go false e q = inr (ltb-false kept longest q)
-
 -- the header's counts, in its first two bytes
 pub header-is : (input : List ℕ) → getD input 0 0 < 256 → getD input 1 0 < 256
     → 4 + getD input 0 0 / 2 + 6 * (getD input 0 0 % 2 * 256 + getD input 1 0) ≡ tableBytes input
@@ -89,9 +79,9 @@ told-else zero b bytes = refl
 told-else (suc a) b bytes = rw (ne-eqb (suc a) 0 (λ z. absurd (omega (arith, z))))
 
 -- The whole input: the kept bytes, and zeros for those beyond
-module _ (kept : List ℕ) (beyond : ℕ) (enough : (beyond ≡ 0) ⊎ (longest ≤ length kept)) where
-  abbrev heard : List ℕ
-  heard = kept ++ replicate beyond 0
+module _ (kept : List ℕ) (beyond : ℕ) (enough : (beyond ≡ 0) ⊎ (longestInput ≤ length kept)) where
+  abbrev input : List ℕ
+  input = kept ++ replicate beyond 0
 
   abbrev steps : ℕ
   steps = length (stepsPart kept) + beyond
@@ -101,7 +91,8 @@ module _ (kept : List ℕ) (beyond : ℕ) (enough : (beyond ≡ 0) ⊎ (longest 
   byParts =
       let table = readTable (tablePart kept) in
       let marking = readMarking (eventsIn kept) (markingPart kept) in
-      done (table .number) (done (marking .number) (afterMarking (table .table) (marking .marking) (stepsPart kept) beyond) (marking .number ∷ [])) (table .number ∷ [])
+      done (table .number) (done (marking .number) (afterMarking (table .table) (marking .marking) (stepsPart kept) beyond) (marking .number ∷ []))
+      (table .number ∷ [])
 
   abbrev number : ℕ
   number = numberOf (tablePart kept) (eventsIn kept) (markingPart kept) steps
@@ -117,35 +108,37 @@ module _ (kept : List ℕ) (beyond : ℕ) (enough : (beyond ≡ 0) ⊎ (longest 
       let table = readTable (tablePart kept) in
       let marking = readMarking (eventsIn kept) (markingPart kept) in
       let rest = judged (table .table) (marking .marking) else 1 if eqb (steps % 2) 1 else traceNumber (steps / 2) (steps / 2) in
-      let bytes = answersOf (table .table) (marking .marking) (stepsIn (stepsPart kept)) ++ markingImage (endOf (table .table) (marking .marking) (stepsIn (stepsPart kept))) in
+      let bytes =
+      answersOf (table .table) (marking .marking) (stepsIn (stepsPart kept))
+      ++ markingImage (endOf (table .table) (marking .marking) (stepsIn (stepsPart kept))) in
       sym (told-else (table .number) (marking .number else rest) bytes
       ∙ ap {B = List ℕ} (λ l. done (table .number) l (table .number ∷ [])) (told-else (marking .number) rest bytes))
 
-  pub heard-is : station heard ≡ byParts
+  pub heard-is : station input ≡ byParts
   heard-is = ⊎-elim none some (decide (eqb beyond 0))
     where
-      none : eqb beyond 0 ≡ true → station heard ≡ byParts
+      none : eqb beyond 0 ≡ true → station input ≡ byParts
       none h =
           let e : beyond ≡ 0 = eqb-true beyond 0 h in
-          let same : heard ≡ kept = ap (λ (n : ℕ). kept ++ replicate n 0) e ∙ append-nil kept in
+          let same : input ≡ kept = ap (λ (n : ℕ). kept ++ replicate n 0) e ∙ append-nil kept in
           let all : length (stepsPart kept) ≡ steps = omega (arith, e) in
           ap station same
           ∙ station-is kept
           ∙ rw all (sym parts-number)
 
-      some : eqb beyond 0 ≡ false → station heard ≡ byParts
+      some : eqb beyond 0 ≡ false → station input ≡ byParts
       some h =
           let more : 0 < beyond = omega (arith, eqb-false beyond 0 h) in
-          let full : longest ≤ length kept = ⊎-elim (λ z. absurd (omega (arith, z))) (λ l. l) enough in
-          let size : length heard ≡ length kept + beyond = length-append kept (replicate beyond 0) ∙ rw (length-replicate {A = ℕ} beyond 0) in
-          let long : longest < length heard = omega arith in
-          let first : take longest heard ≡ take longest kept = take-append-le longest kept (replicate beyond 0) full in
-          let left : length (stepsPart heard) ≡ steps =
-          steps-left heard ∙ rw (table-same heard kept first, events-same heard kept first, size)
+          let full : longestInput ≤ length kept = ⊎-elim (λ z. absurd (omega (arith, z))) (λ l. l) enough in
+          let size : length input ≡ length kept + beyond = length-append kept (replicate beyond 0) ∙ rw (length-replicate {A = ℕ} beyond 0) in
+          let long : longestInput < length input = omega arith in
+          let first : take longestInput input ≡ take longestInput kept = take-append-le longestInput kept (replicate beyond 0) full in
+          let left : length (stepsPart input) ≡ steps =
+          steps-left input ∙ rw (table-same input kept first, events-same input kept first, size)
           (omega (arith, header-small kept, full, steps-left kept)) in
-          let same : stationNumber heard ≡ number = number-by heard kept first steps left in
-          let refused : number ≡ 0 → ⊥ = λ z. absurd (omega (arith, long, granted-short heard (same ∙ z))) in
-          too-long heard long
+          let same : stationNumber input ≡ number = number-by input kept first steps left in
+          let refused : number ≡ 0 → ⊥ = λ z. absurd (omega (arith, long, granted-short input (same ∙ z))) in
+          too-long input long
           ∙ ap {B = List ℕ} (λ n. n ∷ []) same
           ∙ sym (parts-number ∙ rw (ne-eqb number 0 refused))
 
@@ -160,7 +153,7 @@ module _ (kept : List ℕ) (beyond : ℕ) (enough : (beyond ≡ 0) ⊎ (longest 
     read-part : read ≡ readTable (tablePart kept)
     read-part = read-is ∙ ap readTable (rw cut (take-least (tableBytes kept) kept))
 
-    pub table-refused : (read .number ≡ 0 → ⊥) → station heard ≡ read .number ∷ []
+    pub table-refused : (read .number ≡ 0 → ⊥) → station input ≡ read .number ∷ []
     table-refused h = heard-is ∙ rw (← read-part, ne-eqb (read .number) 0 h)
 
     module _ (h : read .number ≡ 0) where
@@ -180,17 +173,19 @@ module _ (kept : List ℕ) (beyond : ℕ) (enough : (beyond ≡ 0) ⊎ (longest 
       rest-is : drop size kept ≡ drop (tableBytes kept) kept
       rest-is = rw cut (drop-least (tableBytes kept) kept)
 
-      pub table-read : afterTable (read .table) (take (length kept - size) (drop size kept)) beyond ≡ station heard
+      pub table-read : afterTable (read .table) (take (length kept - size) (drop size kept)) beyond ≡ station input
       unfolding afterTable
       table-read =
           ap (λ (l : List ℕ). afterTable (read .table) l beyond) (to-end size kept ∙ rest-is)
           ∙ ap (λ (n : ℕ). afterFew (read .table) n (drop (tableBytes kept) kept)) events-read
           ∙ ap (λ (k : TableAnswer). afterFew (k .table) (eventsIn kept) (drop (tableBytes kept) kept)) read-part
-          ∙ sym (heard-is ∙ ap (λ (n : ℕ). done n (afterFew (readTable (tablePart kept) .table) (eventsIn kept) (drop (tableBytes kept) kept)) (n ∷ [])) accepted)
+          ∙ sym (heard-is ∙ ap (λ (n : ℕ). done n (afterFew (readTable (tablePart kept) .table) (eventsIn kept) (drop (tableBytes kept) kept))
+          (n ∷ [])) accepted)
 
       pub rest-there : (beyond ≡ 0) ⊎ (longestMarking + longestSteps ≤ length (take (length kept - size) (drop size kept)))
       rest-there = rw (to-end size kept)
-          (⊎-elim (λ z. inl z) (λ l. inr (omega (arith, l, table-short (take size kept) (rw read-is at h), length-take size kept, length-drop size kept))) enough)
+          (⊎-elim (λ z. inl z) (λ l. inr
+          (omega (arith, l, table-short (take size kept) (rw read-is at h), length-take size kept, length-drop size kept))) enough)
 
 -- The marking's part
 module _ (t : Table) (rest : List ℕ) (beyond size : ℕ) (cut : size ≡ min (recordBytes * t .events) (length rest))
@@ -252,10 +247,7 @@ module _ (t : Table) (m : Marking) (kept : List ℕ) where
   steps-granted h = let known = bytes-granted t m kept (length kept / 2) h in (known .0, known .1 .1)
 
 -- Writing
-pub told-none : (before : List ℕ) → Told [] before 0 before
-told-none before = record { counted = refl; put = refl }
-
-pub told-one : (n : ℕ) (before : List ℕ) → 1 ≤ length before → Told (n ∷ []) before 1 (set before 0 n)
+pub told-one : (n : ℕ) (before : List ℕ) → 1 ≤ length before → AtStart (n ∷ []) before 1 (set before 0 n)
 told-one n [] h = absurd (omega arith)
 told-one n (b ∷ before) h = record { counted = refl; put = refl }
 
@@ -297,7 +289,7 @@ module _ (t : Table) (after : Marking) (judged-done : judged t after ≡ 0) (ans
   image-long = image-length after ∙ rw same-events
 
   pub told-behind : (put : List ℕ) → put ≡ writeMarking after (take (length now - count) (drop count now))
-      → Told (answers ++ markingImage after) before (count + recordBytes * t .events) (take count now ++ (put ++ drop (length now - count) (drop count now)))
+      → AtStart (answers ++ markingImage after) before (count + recordBytes * t .events) (take count now ++ (put ++ drop (length now - count) (drop count now)))
   told-behind put e = record { counted = bytes-long; put = bytes-put }
     where
       total : length (answers ++ markingImage after) ≡ count + recordBytes * t .events
@@ -329,44 +321,68 @@ module _ (t : Table) (m : Marking) (kept before : List ℕ) (granted : byNumber 
   counted = answers-length t m (stepsIn kept) ∙ steps-length kept
 
   pub still-long : length now ≡ length before
-  still-long = rw now-is (length-append (answersOf t m (stepsIn kept)) (drop count before) ∙ rw (counted, length-drop count before) (omega (arith, steps-granted t m kept granted .1, room)))
+  still-long =
+      rw now-is (length-append (answersOf t m (stepsIn kept)) (drop count before)
+      ∙ rw (counted, length-drop count before) (omega (arith, steps-granted t m kept granted .1, room)))
 
   pub steps-told : (after : Marking) → after ≡ endOf t m (stepsIn kept)
       → (put : List ℕ) → put ≡ writeMarking after (take (length now - count) (drop count now))
-      → Told (afterMarking t m kept 0) before (count + recordBytes * t .events) (take count now ++ (put ++ drop (length now - count) (drop count now)))
+      → AtStart (afterMarking t m kept 0) before (count + recordBytes * t .events) (take count now ++ (put ++ drop (length now - count) (drop count now)))
   steps-told after e put f =
       let known = steps-granted t m kept granted in
       let bytes : answersOf t m (stepsIn kept) ++ markingImage after ≡ afterMarking t m kept 0 =
       ap (λ (k : Marking). answersOf t m (stepsIn kept) ++ markingImage k) e ∙ sym (steps-done t m kept granted) in
-      subst (λ (l : List ℕ). Told l before (count + recordBytes * t .events) (take count now ++ (put ++ drop (length now - count) (drop count now)))) bytes
+      subst (λ (l : List ℕ). AtStart l before (count + recordBytes * t .events) (take count now ++ (put ++ drop (length now - count) (drop count now)))) bytes
       (told-behind t after (subst (λ (k : Marking). judged t k ≡ 0) (sym e) (end-judged t m (stepsIn kept) (known .0)))
       (answersOf t m (stepsIn kept)) before now count counted (omega (arith, known .1, room)) now-is put f)
 
--- What the program hands over of an input: its first bytes, and how many came after them. That is enough
-pub whole-heard : (input : List ℕ) (room : ℕ) → longestOutput ≤ room → written (take longest input) (length input - longest) room ≡ station input
-unfolding written misused
-whole-heard input room enough =
-    let zeros : List ℕ = replicate (length input - longest) 0 in
-    let size : length (take longest input) ≡ min longest (length input) = length-take longest input in
-    let used : (ltb room longestOutput || not (eqb (length input - longest) 0) && ltb (length (take longest input)) longest) ≡ false =
-    rw (le-ltb room longestOutput enough, size) (right (eqb (length input - longest) 0) refl) in
-    rw used
-    (same-answer (take longest input ++ zeros) input
-    (length-append (take longest input) zeros ∙ rw (size, length-replicate {A = ℕ} (length input - longest) 0) (omega arith))
-    (first (leb longest (length input)) refl))
-  where
-    right : (none : Bool) → eqb (length input - longest) 0 ≡ none → (not none && ltb (min longest (length input)) longest) ≡ false
-    right true e = refl
-    right false e = le-ltb (min longest (length input)) longest (omega (arith, eqb-false (length input - longest) 0 e))
+-- The call: a refusal writes nothing; else what is told of the whole input is what is written
+module _ (kept : List ℕ) (beyond : ℕ) (before : List ℕ) where
+  abbrev numberOfCall : ℕ
+  numberOfCall = heardNumber (length kept) beyond (length before)
 
-    first : (full : Bool) → leb longest (length input) ≡ full → take longest (take longest input ++ replicate (length input - longest) 0) ≡ take longest input
-    first true e =
-        let long : longest ≤ length input = leb-true longest (length input) e in
-        take-append-le longest (take longest input) (replicate (length input - longest) 0) (omega (arith, long, length-take longest input))
-        ∙ take-take longest longest input (omega arith)
-    first false e =
-        let short : length input < longest = leb-false longest (length input) e in
-        let none : length input - longest ≡ 0 = omega arith in
-        ap (λ (n : ℕ). take longest (take longest input ++ replicate n 0)) none
-        ∙ ap (take longest) (append-nil (take longest input))
-        ∙ take-take longest longest input (omega arith)
+  abbrev Answers : StationAnswer → List ℕ → Type 0
+  Answers answer after =
+      (answer ≡ record { number = numberOfCall; count = length (heardBytes kept beyond (length before)) }) × (after ≡ heardOutput kept beyond before)
+
+  pub call-refused : {number : ℕ} → number ≡ numberOfCall → (number ≡ 0 → ⊥) → Answers (record { number = number; count = 0 }) before
+  unfolding heardBytes heardOutput
+  call-refused {number} e h = let refused : eqb numberOfCall 0 ≡ false = ne-eqb numberOfCall 0 (λ z. h (e ∙ z)) in (rw (e, refused), rw refused)
+
+  pub call-done : {count : ℕ} {after : List ℕ} → numberOfCall ≡ 0 → AtStart (station (kept ++ replicate beyond 0)) before count after
+      → Answers (record { number = 0; count = count }) after
+  unfolding heardBytes heardOutput
+  call-done granted told = (rw (granted, told .counted), rw granted (told .put))
+
+-- Every input is answered by a byte or more: one for a refusal, else the end marking of at least one event
+pub some-byte : (input : List ℕ) → 0 < length (station input)
+unfolding numberOf
+some-byte input = rw (station-is input) (go (eqb (stationNumber input) 0) refl)
+  where
+    table : TableAnswer
+    table = readTable (tablePart input)
+
+    marking : MarkingAnswer
+    marking = readMarking (eventsIn input) (markingPart input)
+
+    after : Marking
+    after = endOf (table .table) (marking .marking) (stepsIn (stepsPart input))
+
+    answers : List ℕ
+    answers = answersOf (table .table) (marking .marking) (stepsIn (stepsPart input))
+
+    go : (granted : Bool) → eqb (stationNumber input) 0 ≡ granted → 0 < length (cond granted (answers ++ markingImage after) (stationNumber input ∷ []))
+    go false e = omega arith
+    go true e =
+        let a = both-done (table .number) _ (eqb-true (stationNumber input) 0 e) in
+        let b = both-done (marking .number) _ (a .1) in
+        let c = both-done (judged (table .table) (marking .marking)) _ (b .1) in
+        let known = good (table .table) after (end-judged (table .table) (marking .marking) (stepsIn (stepsPart input)) (c .0)) in
+        omega (arith, length-append answers (markingImage after), image-length after, known .marking-good .same-events, known .table-good .some-events)
+
+-- so the call writes one or more, within the output, where it has room and enough bytes are kept
+pub call-writes : (kept : List ℕ) (beyond : ℕ) (before : List ℕ) {answer : StationAnswer} {after : List ℕ} → Answers kept beyond before answer after
+    → longestOutput ≤ length before → (beyond ≡ 0) ⊎ (longestInput ≤ length kept) → (0 < answer .count) × (answer .count ≤ length after)
+unfolding heardBytes
+call-writes kept beyond before p fits enough = rw (p .0, p .1)
+    (rw (heard-enough (length kept) beyond (length before) fits enough) (some-byte (kept ++ replicate beyond 0)), heard-within kept beyond before)

@@ -1,5 +1,5 @@
 -- What a call knows once it has judged what it was handed, and has laid the marking out as words. Assumes nothing.
-use mathlib.Core.Path.{_≡_, refl, _∙_, ap, ap₂, sym, subst}
+use mathlib.Core.Path.{_≡_, _∙_, ap, sym, subst}
 use mathlib.Core.Bool.{Bool, not}
 use mathlib.Core.List.{List}
 use Prim.Native.Nat.{ℕ, _<_, _≤_}
@@ -15,9 +15,10 @@ use Rattle.rules.specs.Numbers.{_if_, _else_, done}
 use Rattle.rules.specs.Judge.{tableNumber, markingNumberFor, judged, eventNumber}
 use Rattle.rules.specs.Effect.{effect}
 use Rattle.rules.specs.Time.{time, plainTick, plainTickNumber}
-use Rattle.rules.specs.Laws.Ask.{askNumber, asked}
-use Rattle.rules.specs.Laws.Judge.{GoodTable, GoodMarking, Good, good}
-use Rattle.rules.specs.Laws.Told.{stands}
+use Rattle.rules.specs.Shapes.Asked.{askNumber, asked}
+use Rattle.rules.specs.Shapes.Good.{GoodTable, GoodMarking}
+use Rattle.rules.specs.Laws.Judge.{good}
+use Rattle.rules.specs.Laws.Granted.{stands}
 use Rattle.acts.specs.Stands.{Stands}
 use Rattle.acts.specs.Laws.Laid.{lay-good}
 
@@ -45,7 +46,8 @@ module _ (t : Table) (m : Marking) where
   unfolding asked
   ask-judged wanted e d = rw d
 
-  pub ask-unjudged : (wanted : Bool) (e : ℕ) {number : ℕ} → number ≡ judged t m → (number ≡ 0 → ⊥) → record { number = number; marking = m } ≡ asked wanted t m e
+  pub ask-unjudged : (wanted : Bool) (e : ℕ) {number : ℕ} → number ≡ judged t m → (number ≡ 0 → ⊥)
+      → record { number = number; marking = m } ≡ asked wanted t m e
   unfolding asked
   ask-unjudged wanted e p h = rw (← stands (askNumber wanted t m e) p h, ne-eqb _ 0 h)
 
@@ -73,7 +75,8 @@ module _ (t : Table) (m : Marking) where
         given after (subst (λ (n : ℕ). Stands n (unused m) clock sets columns after) (sym same) held)
 
 -- an act that is done, and one that is refused
-pub acted-done : (after m : Marking) {number told : ℕ} {r : Marking} → number ≡ 0 → number ≡ told → r ≡ done number after m → record { number = 0; marking = r } ≡ acted told after m
+pub acted-done : (after m : Marking) {number told : ℕ} {r : Marking} → number ≡ 0 → number ≡ told → r ≡ done number after m
+    → record { number = 0; marking = r } ≡ acted told after m
 acted-done after m {number} {told} {r} z p q =
     let zero-told : 0 ≡ told = sym z ∙ p in
     ap (λ (k : Marking). record { number = 0; marking = k }) (q ∙ ap (λ (n : ℕ). done n after m) z) ∙ ap (λ (n : ℕ). acted n after m) zero-told

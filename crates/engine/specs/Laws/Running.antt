@@ -20,7 +20,8 @@ use Rattle.rules.specs.Check.{verdict}
 use Rattle.rules.specs.Trace.{stepNumber, stepped, traceNumber, run, runAnswers, endOf, answersOf, stepsIn}
 use Rattle.rules.specs.Laws.Tests.{clash, both, either}
 use Rattle.rules.specs.Laws.Numbers.{both-done}
-use Rattle.rules.specs.Laws.Judge.{GoodTable, good}
+use Rattle.rules.specs.Shapes.Good.{GoodTable}
+use Rattle.rules.specs.Laws.Judge.{good}
 use Rattle.rules.specs.Laws.Trace.{turned, stepped-judged, noStep, steps-length, steps-at, After, after-none, after-more, after-all, trace-granted}
 use Rattle.rules.specs.Demand3.Accepts.{check-parts, check-accepts}
 use Rattle.rules.specs.Demand3.Statements.{still-accepts as accepts-on}

@@ -4,7 +4,6 @@ use mathlib.Core.Bool.{Bool, true, false, _&&_}
 use mathlib.Core.List.{List}
 use Prim.Native.Nat.{ℕ, _<_, _≤_, _+_, _*_}
 use native.Mathlib.Omega.{arith}
-use lib.Dec.{ltb}
 use lib.ListN.{length, getD}
 use borrow.Author.Tests.{lt-ltb, le-ltb}
 use Rattle.rules.specs.declared.Table.{Table}
@@ -16,10 +15,12 @@ use Rattle.rules.specs.Enabled.{isEnabled}
 use Rattle.rules.specs.Effect.{effect}
 use Rattle.rules.specs.Time.{anyDue, dueSet}
 use Rattle.rules.specs.Remedy.{shortest}
-use Rattle.rules.specs.Laws.Judge.{GoodTable, good}
+use Rattle.rules.specs.Shapes.Good.{GoodTable}
+use Rattle.rules.specs.Laws.Judge.{good}
 use Rattle.rules.specs.Laws.Tests.{both}
 use Rattle.rules.specs.Laws.Time.{none-due-yet, some-due-still}
-use Rattle.rules.specs.Laws.Remedy.{mayCause, Passed, passed-none, passed-more, found-here, found-none, stuck-here}
+use Rattle.rules.specs.Shapes.Tried.{mayCause}
+use Rattle.rules.specs.Laws.Remedy.{TriedSoFar, passed-none, passed-more, found-here, found-none, stuck-here}
 use Rattle.acts.specs.declared.derived.Head.{Head}
 use Rattle.acts.specs.Derived.{headOf, Own, Derived, Linked}
 use Rattle.acts.specs.Stands.{Stands}
@@ -31,7 +32,8 @@ module _ (t : Table) (head : Head) (of : head ≡ headOf t) where
   same-events : head .events ≡ t .events
   same-events = ap (λ (h : Head). h .events) of
 
-  pub stands-headed : (tail : List Record) (sets columns : List ℕ) (m : Marking) → Stands (t .events) tail 0 sets columns m → Stands (head .events) tail 0 sets columns m
+  pub stands-headed : (tail : List Record) (sets columns : List ℕ) (m : Marking) → Stands (t .events) tail 0 sets columns m
+      → Stands (head .events) tail 0 sets columns m
   stands-headed tail sets columns m = subst (λ (n : ℕ). Stands n tail 0 sets columns m) (sym same-events)
 
   pub exists-headed : (e : ℕ) → e < head .events → e < t .events
@@ -59,7 +61,7 @@ abbrev pub Trying : List ℕ → List ℕ → Head → List ℕ → ℕ → List
 Trying rows links head list i sets columns now-sets now-columns =
     (t : Table) (tail : List Record) (m : Marking) → judged t m ≡ 0 → Derived t (t .count) rows → Linked t (t .count) rows links → head ≡ headOf t
     → Stands (t .events) tail 0 sets columns m
-    → (trial : Marking) × (Stands (t .events) tail 0 now-sets now-columns trial × Passed t m list i trial)
+    → (trial : Marking) × (Stands (t .events) tail 0 now-sets now-columns trial × TriedSoFar t m list i trial)
 
 module _ (rows links : List ℕ) (head : Head) (list : List ℕ) (sets columns : List ℕ) where
   pub trying-none : Trying rows links head list 0 sets columns sets columns
@@ -71,7 +73,8 @@ module _ (rows links : List ℕ) (head : Head) (list : List ℕ) (sets columns :
         → ((t : Table) (tail : List Record) (k : Marking) → GoodTable t → Derived t (t .count) rows → Linked t (t .count) rows links → head ≡ headOf t
         → Stands (t .events) tail 0 now-sets now-columns k → go ≡ (anyDue k && mayCause t k (getD list i 0)))
         → (next-sets next-columns : List ℕ)
-        → ((t : Table) (tail : List Record) (k : Marking) → GoodTable t → Own t (t .count) (getD list i 0) rows (10 * getD list i 0) links → getD list i 0 < t .events
+        → ((t : Table) (tail : List Record) (k : Marking) → GoodTable t → Own t (t .count) (getD list i 0) rows (10 * getD list i 0) links
+        → getD list i 0 < t .events
         → Stands (t .events) tail 0 now-sets now-columns k → Stands (t .events) tail 0 next-sets next-columns (effect t k (getD list i 0)))
         → Trying rows links head list (i + 1) sets columns next-sets next-columns
     trying-more more go goes exists few says next-sets next-columns effects t tail m done derived linked of stands =

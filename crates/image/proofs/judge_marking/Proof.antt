@@ -23,7 +23,8 @@ marking-number-requires c κs = search needs
 returns-3 : tie.Need-returns-3
 unfolding markingNumberFor
 returns-3 c =
-    rw (sym (c .before .before .before .before .events-fit .ensures) ∙ not-false _ (c .before .before .before .if1 .left), eq-eqb _ _ (c .before .if2 .left)) (c .marking-number .ensures)
+    rw (sym (c .before .before .before .before .events-fit .ensures) ∙ not-false _ (c .before .before .before .if1 .left), eq-eqb _ _ (c .before .if2 .left))
+    (c .marking-number .ensures)
 
 pub judge-marking-spec : {M : Type 1} → statement M
 judge-marking-spec = tie.close (tie.spec events-fit-requires returns returns-2 marking-number-requires returns-3)

@@ -23,7 +23,8 @@ relations-number-requires c κs = search needs
 returns-3 : tie.Need-returns-3
 unfolding tableNumber
 returns-3 c =
-    rw (sym (c .before .before .before .before .events-fit .ensures) ∙ not-false _ (c .before .before .before .if1 .left), le-leb _ _ (c .before .if2 .left)) (c .relations-number .ensures)
+    rw (sym (c .before .before .before .before .events-fit .ensures) ∙ not-false _ (c .before .before .before .if1 .left), le-leb _ _ (c .before .if2 .left))
+    (c .relations-number .ensures)
 
 pub judge-table-spec : {M : Type 1} → statement M
 judge-table-spec = tie.close (tie.spec events-fit-requires returns returns-2 relations-number-requires returns-3)

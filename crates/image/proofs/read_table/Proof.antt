@@ -14,7 +14,8 @@ use Rattle.rules.specs.Image.{eventsIn, relationsIn, headerSpare, tableLength}
 use Rattle.rules.specs.Laws.Fit.{fit-few}
 use Rattle.image.specs.declared.table.Classes.{Classes}
 use Rattle.image.specs.Parts.{classNumber, isControllableIn, isCausableIn, classesRead}
-use Rattle.image.specs.Laws.Tables.{header-events, header-relations, header-spare, ends-short, ends-spare, ends-events, ends-relations, ends-length, ends-classes, ends-relation}
+use Rattle.image.specs.Laws.Tables.{header-events, header-relations, header-spare, ends-short, ends-spare, ends-events, ends-relations, ends-length}
+use Rattle.image.specs.Laws.Tables.{ends-classes, ends-relation}
 use Rattle.image.proofs.read_table.Statement.{statement}
 use Rattle.image.proofs.read_table.Tie as tie
 
@@ -59,7 +60,8 @@ judged c = c .events-fit .ensures ∙ ap eventsFit (events (c .before .before))
 returns-3 : tie.Need-returns-3
 returns-3 c =
     c .refused3 .ensures
-    ∙ ends-events _ (c .before .before .before .before .before .if1 .left) (clear (c .before .before .before)) (sym (judged (c .before .before)) ∙ not-true _ (c .before .if3 .taken))
+    ∙ ends-events _ (c .before .before .before .before .before .if1 .left) (clear (c .before .before .before))
+    (sym (judged (c .before .before)) ∙ not-true _ (c .before .if3 .taken))
 
 fit : (c : tie.Else3) → eventsFit (eventsIn (c .before .before .before .before .before .before .args .image .now)) ≡ true
 fit c = sym (judged (c .before)) ∙ not-false _ (c .if3 .left)
@@ -70,7 +72,8 @@ refused-requires-4 c κs = search needs
 returns-4 : tie.Need-returns-4
 returns-4 c =
     c .refused4 .ensures
-    ∙ ends-relations _ (c .before .before .before .before .before .before .if1 .left) (clear (c .before .before .before .before)) (fit (c .before .before)) (rw (relations (c .before .before .before .before .before)) at (c .before .if4 .taken))
+    ∙ ends-relations _ (c .before .before .before .before .before .before .if1 .left) (clear (c .before .before .before .before)) (fit (c .before .before))
+    (rw (relations (c .before .before .before .before .before)) at (c .before .if4 .taken))
 
 few : (c : tie.Else4) → relationsIn (c .before .before .before .before .before .before .before .args .image .now) ≤ mostRelations
 few c = rw (relations (c .before .before .before .before)) at (c .if4 .left)
@@ -90,15 +93,20 @@ refused-requires-5 c κs = search needs
 -- the length that the code compares with
 said : (c : tie.Else4)
     → 4 + c .before .before .before .before .word .result / 33554432 % 128 + 6 * (c .before .before .before .before .word .result / 65536 % 512)
-    ≡ tableLength (eventsIn (c .before .before .before .before .before .before .before .args .image .now)) (relationsIn (c .before .before .before .before .before .before .before .args .image .now))
+    ≡ tableLength (eventsIn (c .before .before .before .before .before .before .before .args .image .now))
+    (relationsIn (c .before .before .before .before .before .before .before .args .image .now))
 said c = ap₂ tableLength (events (c .before .before .before .before)) (relations (c .before .before .before .before))
 
 returns-5 : tie.Need-returns-5
 returns-5 c =
     c .refused5 .ensures
-    ∙ ends-length _ (c .before .before .before .before .before .before .before .if1 .left) (clear (c .before .before .before .before .before)) (fit (c .before .before .before)) (few (c .before .before)) (λ z. c .before .if5 .taken (z ∙ sym (said (c .before .before))))
+    ∙ ends-length _ (c .before .before .before .before .before .before .before .if1 .left) (clear (c .before .before .before .before .before))
+    (fit (c .before .before .before)) (few (c .before .before)) (λ z. c .before .if5 .taken (z ∙ sym (said (c .before .before))))
 
-exact : (c : tie.Else5) → length (c .before .before .before .before .before .before .before .before .args .image .now) ≡ tableLength (eventsIn (c .before .before .before .before .before .before .before .before .args .image .now)) (relationsIn (c .before .before .before .before .before .before .before .before .args .image .now))
+exact : (c : tie.Else5)
+    → length (c .before .before .before .before .before .before .before .before .args .image .now) ≡ tableLength
+    (eventsIn (c .before .before .before .before .before .before .before .before .args .image .now))
+    (relationsIn (c .before .before .before .before .before .before .before .before .args .image .now))
 exact c = c .if5 .left ∙ said (c .before)
 
 classes-in-requires : tie.Need-classes-in-requires
@@ -108,37 +116,62 @@ refused-requires-6 : tie.Need-refused-requires-6
 refused-requires-6 c κs = search needs
 
 -- the classes that are read
-classes : (c : tie.After-classes-in) → c .classes-in .result ≡ classesRead (c .before .before .before .before .before .before .before .before .before .args .image .now) (eventsIn (c .before .before .before .before .before .before .before .before .before .args .image .now))
-classes c = c .classes-in .ensures ∙ ap (classesRead (c .before .before .before .before .before .before .before .before .before .args .image .now)) (events (c .before .before .before .before .before .before))
+classes : (c : tie.After-classes-in)
+    → c .classes-in .result ≡ classesRead (c .before .before .before .before .before .before .before .before .before .args .image .now)
+    (eventsIn (c .before .before .before .before .before .before .before .before .before .args .image .now))
+classes c =
+    c .classes-in .ensures ∙ ap (classesRead (c .before .before .before .before .before .before .before .before .before .args .image .now))
+    (events (c .before .before .before .before .before .before))
 
-number : (c : tie.After-classes-in) → firstOf (eventsIn (c .before .before .before .before .before .before .before .before .before .args .image .now)) (classNumber (c .before .before .before .before .before .before .before .before .before .args .image .now)) ≡ c .classes-in .result .number
+number : (c : tie.After-classes-in)
+    → firstOf (eventsIn (c .before .before .before .before .before .before .before .before .before .args .image .now))
+    (classNumber (c .before .before .before .before .before .before .before .before .before .args .image .now)) ≡ c .classes-in .result .number
 number c = sym (ap (λ (k : Classes). k .number) (classes c))
 
 returns-6 : tie.Need-returns-6
 returns-6 c =
     c .refused6 .ensures
-    ∙ ends-classes _ (c .before .before .before .before .before .before .before .before .before .before .if1 .left) (clear (c .before .before .before .before .before .before .before .before)) (fit (c .before .before .before .before .before .before)) (few (c .before .before .before .before .before)) (exact (c .before .before .before .before)) _ (number (c .before .before .before)) (c .before .if6 .taken)
+    ∙ ends-classes _ (c .before .before .before .before .before .before .before .before .before .before .if1 .left)
+    (clear (c .before .before .before .before .before .before .before .before)) (fit (c .before .before .before .before .before .before))
+    (few (c .before .before .before .before .before)) (exact (c .before .before .before .before)) _ (number (c .before .before .before)) (c .before .if6 .taken)
 
 relations-in-requires : tie.Need-relations-in-requires
-relations-in-requires c κs = (rw (events (c .before .before .before .before .before .before .before .before)) (fit-few _ (fit (c .before .before .before .before .before))), c .before .before .before .before .if4 .left, c .before .before .before .if5 .left)
+relations-in-requires c κs = (
+  rw (events (c .before .before .before .before .before .before .before .before)) (fit-few _ (fit (c .before .before .before .before .before))),
+  c .before .before .before .before .if4 .left,
+  c .before .before .before .if5 .left,
+)
 
 -- past the last test no class has a spare bit, and the sets are whole
 done : (c : tie.Else6)
-    → firstOf (eventsIn (c .before .before .before .before .before .before .before .before .before .before .before .args .image .now)) (classNumber (c .before .before .before .before .before .before .before .before .before .before .before .args .image .now)) ≡ 0
+    → firstOf (eventsIn (c .before .before .before .before .before .before .before .before .before .before .before .args .image .now))
+    (classNumber (c .before .before .before .before .before .before .before .before .before .before .before .args .image .now)) ≡ 0
 done c = number (c .before .before) ∙ c .if6 .left
 
 controllable : (c : tie.Else6)
-    → c .before .before .classes-in .result .controllable ≡ setOf (eventsIn (c .before .before .before .before .before .before .before .before .before .before .before .args .image .now)) (isControllableIn (c .before .before .before .before .before .before .before .before .before .before .before .args .image .now))
+    → c .before .before .classes-in .result .controllable ≡ setOf
+    (eventsIn (c .before .before .before .before .before .before .before .before .before .before .before .args .image .now))
+    (isControllableIn (c .before .before .before .before .before .before .before .before .before .before .before .args .image .now))
 controllable c = ap (λ (k : Classes). k .controllable) (classes (c .before .before)) ∙ rw (done c)
 
 causable : (c : tie.Else6)
-    → c .before .before .classes-in .result .causable ≡ setOf (eventsIn (c .before .before .before .before .before .before .before .before .before .before .before .args .image .now)) (isCausableIn (c .before .before .before .before .before .before .before .before .before .before .before .args .image .now))
+    → c .before .before .classes-in .result .causable ≡ setOf
+    (eventsIn (c .before .before .before .before .before .before .before .before .before .before .before .args .image .now))
+    (isCausableIn (c .before .before .before .before .before .before .before .before .before .before .before .args .image .now))
 causable c = ap (λ (k : Classes). k .causable) (classes (c .before .before)) ∙ rw (done c)
 
 returns-7 : tie.Need-returns-7
 returns-7 c =
-    rw (c .relations-in .ensures, events (c .before .before .before .before .before .before .before .before .before), relations (c .before .before .before .before .before .before .before .before .before), controllable (c .before), causable (c .before))
-    (ends-relation _ (c .before .before .before .before .before .before .before .before .before .before .if1 .left) (clear (c .before .before .before .before .before .before .before .before)) (fit (c .before .before .before .before .before .before)) (few (c .before .before .before .before .before)) (exact (c .before .before .before .before)) (done (c .before)))
+    rw (
+      c .relations-in .ensures,
+      events (c .before .before .before .before .before .before .before .before .before),
+      relations (c .before .before .before .before .before .before .before .before .before),
+      controllable (c .before),
+      causable (c .before),
+    )
+    (ends-relation _ (c .before .before .before .before .before .before .before .before .before .before .if1 .left)
+    (clear (c .before .before .before .before .before .before .before .before)) (fit (c .before .before .before .before .before .before))
+    (few (c .before .before .before .before .before)) (exact (c .before .before .before .before)) (done (c .before)))
 
 pub read-table-spec : {M : Type 1} → statement M
 read-table-spec =

@@ -6,7 +6,7 @@ use lib.ListN.{length}
 use Rattle.rules.specs.Judge.{markingNumber}
 use Rattle.rules.specs.Image.{writeNumber}
 use Rattle.image.specs.Laws.Parts.{events-few}
-use Rattle.image.specs.Laws.Written.{number-refused, number-short, number-done, bytes-kept, bytes-written}
+use Rattle.rules.specs.Laws.Written.{number-refused, number-short, number-done, bytes-kept, bytes-written}
 use Rattle.image.proofs.write_marking.Statement.{statement}
 use Rattle.image.proofs.write_marking.Tie as tie
 
@@ -30,7 +30,9 @@ mul-if2 c = omega (arith, events-few _ (judged (c .before)))
 
 returns-2 : tie.Need-returns-2
 returns-2 c =
-    let number = number-short (c .before .before .before .before .before .args .m) (length (c .before .before .before .before .before .args .buffer .now)) (judged (c .before .before)) (c .if2 .taken) in
+    let number =
+    number-short (c .before .before .before .before .before .args .m) (length (c .before .before .before .before .before .args .buffer .now))
+    (judged (c .before .before)) (c .if2 .taken) in
     (sym number, sym (bytes-kept _ _ (λ z. omega (arith, sym number ∙ z))))
 
 put-records-requires : tie.Need-put-records-requires
@@ -41,7 +43,10 @@ same-length c = search needs
 
 returns-3 : tie.Need-returns-3
 returns-3 c =
-    let number = number-done (c .before .before .before .before .before .before .before .before .before .args .m) (length (c .before .before .before .before .before .before .before .before .before .args .buffer .now)) (judged (c .before .before .before .before .before .before)) (c .before .before .before .before .if2 .left) in
+    let number =
+    number-done (c .before .before .before .before .before .before .before .before .before .args .m)
+    (length (c .before .before .before .before .before .before .before .before .before .args .buffer .now))
+    (judged (c .before .before .before .before .before .before)) (c .before .before .before .before .if2 .left) in
     (sym number, c .before .before .put-records .ensures ∙ sym (bytes-written _ _ number))
 
 pub write-marking-spec : {M : Type 1} → statement M

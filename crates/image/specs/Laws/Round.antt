@@ -1,7 +1,7 @@
 -- A marking that is made of judged records is judged 'done', and the images of markings go round both ways. Assumes nothing.
 use mathlib.Core.Path.{_≡_, refl, sym, ap, _∙_}
 use mathlib.Core.Bool.{true, not}
-use mathlib.Core.List.{List, [], _++_, append-nil}
+use mathlib.Core.List.{List, [], append-nil}
 use Prim.Native.Nat.{ℕ, _+_, _-_, _*_, _<_}
 use native.Mathlib.Nat.{mod-eq-of-lt, le-of-eq, zero-add}
 use native.Mathlib.Omega.{arith}
@@ -21,9 +21,9 @@ use Rattle.rules.specs.Laws.Counting.{length-places, places-at}
 use Rattle.rules.specs.Laws.Numbers.{if-done, both-done, first-each, first-done}
 use Rattle.rules.specs.Laws.Fields.{bytes-of-word, word-of-bytes}
 use Rattle.rules.specs.Laws.Pieces.{piece-byte, pieces-whole}
-use Rattle.image.specs.Words.{wordOfRecord}
-use Rattle.image.specs.Laws.Words.{room, word-fits, record-back, word-read}
-use Rattle.image.specs.Laws.Records.{image-word, records-sized, image-length}
+use Rattle.rules.specs.Laws.Written.{records-sized, image-length}
+use Rattle.image.specs.Packed.{wordOfRecord}
+use Rattle.image.specs.Laws.Packed.{image-word, room, word-fits, record-back, word-read}
 use Rattle.image.specs.Laws.Parts.{record-done}
 
 -- two lists by their places

@@ -71,7 +71,8 @@ module _ (image : List ℕ) where
                 )
 
             pub ends-relation : firstOf (eventsIn image) (classNumber image) ≡ 0
-                → relationsRead image (eventsIn image) (relationsIn image) (setOf (eventsIn image) (isControllableIn image)) (setOf (eventsIn image) (isCausableIn image))
+                → relationsRead image (eventsIn image) (relationsIn image) (setOf (eventsIn image) (isControllableIn image))
+                (setOf (eventsIn image) (isCausableIn image))
                 ≡ readTable image
             unfolding readTable tableImageNumber tableIn
             ends-relation e = rw (le-ltb (length image) 4 long, clear, fit, le-leb (relationsIn image) mostRelations few, eq-eqb (length image) _ exact, e)

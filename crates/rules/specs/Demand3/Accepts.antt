@@ -1,6 +1,6 @@
--- Lemma 1: the check accepts exactly where some event set has the static facts and the marking keeps within it. From an accepting check the
+-- The check accepts exactly where some event set has the static facts and the marking keeps within it. From an accepting check the
 -- closure is such a set; and the closure is the least that can be, so whatever reason it gave would be one for any such set too. Hence the
--- closure never grows (Lemma 4), and what is needed lies in it (Lemma 5). Assumes nothing.
+-- closure never grows. Assumes nothing.
 use mathlib.Core.Path.{_≡_, refl, _∙_, ap, subst}
 use mathlib.Core.Bool.{Bool, true, false, not, _&&_, _||_, cond}
 use mathlib.Core.Logic.{_⊎_, ⊎-elim, inl, inr}
@@ -22,7 +22,8 @@ use Rattle.rules.specs.Closure.{busy, inhibits, followed, closure}
 use Rattle.rules.specs.Check.{unreportable, uncausable, waiting, awaited, onCycle, reopening, reviving, reason, verdict, check}
 use Rattle.rules.specs.Laws.Tests.{clash, denied, affirmed, not-true, both, join, either, or-left, or-right}
 use Rattle.rules.specs.Laws.Counting.{some-where, some-at, Found, Lacks, lowest-cases, lowest-none}
-use Rattle.rules.specs.Laws.Judge.{GoodTable, good}
+use Rattle.rules.specs.Shapes.Good.{GoodTable}
+use Rattle.rules.specs.Laws.Judge.{good}
 use Rattle.rules.specs.Laws.Closure.{closure-busy, closure-on, closure-within}
 use Rattle.rules.specs.Demand3.Records.{underDeadline}
 use Rattle.rules.specs.Demand3.Facts.{boundedResponse}
@@ -44,33 +45,40 @@ reason-passes number n applies next h p = rw (lowest-none applies n h, le-ltb n 
 
 -- what an accepting check says of each place
 pub record Passed (t : Table) (m : Marking) (X : ℕ) : Type 0 where
-  pub r1 : (e : ℕ) → e < t .events → unreportable t m e ≡ false
-  pub r2 : (e : ℕ) → e < t .events → uncausable t X e ≡ false
-  pub r3 : (k : ℕ) → k < t .count → waiting t X k ≡ false
-  pub r4 : (e : ℕ) → e < t .events → onCycle t X e ≡ false
-  pub r5 : (k : ℕ) → k < t .count → reopening t X k ≡ false
-  pub r6 : (k : ℕ) → k < t .count → reviving t X k ≡ false
+  pub none-unreportable : (e : ℕ) → e < t .events → unreportable t m e ≡ false
+  pub none-uncausable : (e : ℕ) → e < t .events → uncausable t X e ≡ false
+  pub none-waiting : (k : ℕ) → k < t .count → waiting t X k ≡ false
+  pub none-on-cycle : (e : ℕ) → e < t .events → onCycle t X e ≡ false
+  pub none-reopening : (k : ℕ) → k < t .count → reopening t X k ≡ false
+  pub none-reviving : (k : ℕ) → k < t .count → reviving t X k ≡ false
 
 pub passed : (t : Table) (m : Marking) → verdict t m ≡ Accepts → Passed t m (closure t m)
 unfolding verdict
 passed t m h =
-    let p1 = reason-passed 1 (t .events) (unreportable t m) _ h in
-    let p2 = reason-passed 2 (t .events) (uncausable t (closure t m)) _ (p1 .1) in
-    let p3 = reason-passed 3 (t .count) (waiting t (closure t m)) _ (p2 .1) in
-    let p4 = reason-passed 4 (t .events) (onCycle t (closure t m)) _ (p3 .1) in
-    let p5 = reason-passed 5 (t .count) (reopening t (closure t m)) _ (p4 .1) in
-    let p6 = reason-passed 6 (t .count) (reviving t (closure t m)) _ (p5 .1) in
-    record { r1 = p1 .0; r2 = p2 .0; r3 = p3 .0; r4 = p4 .0; r5 = p5 .0; r6 = p6 .0 }
+    let first = reason-passed 1 (t .events) (unreportable t m) _ h in
+    let second = reason-passed 2 (t .events) (uncausable t (closure t m)) _ (first .1) in
+    let third = reason-passed 3 (t .count) (waiting t (closure t m)) _ (second .1) in
+    let fourth = reason-passed 4 (t .events) (onCycle t (closure t m)) _ (third .1) in
+    let fifth = reason-passed 5 (t .count) (reopening t (closure t m)) _ (fourth .1) in
+    let sixth = reason-passed 6 (t .count) (reviving t (closure t m)) _ (fifth .1) in
+    record {
+      none-unreportable = first .0;
+      none-uncausable = second .0;
+      none-waiting = third .0;
+      none-on-cycle = fourth .0;
+      none-reopening = fifth .0;
+      none-reviving = sixth .0;
+    }
 
 passes : (t : Table) (m : Marking) → Passed t m (closure t m) → verdict t m ≡ Accepts
 unfolding verdict
 passes t m p =
-    reason-passes 1 (t .events) (unreportable t m) _ (p .r1)
-    (reason-passes 2 (t .events) (uncausable t (closure t m)) _ (p .r2)
-    (reason-passes 3 (t .count) (waiting t (closure t m)) _ (p .r3)
-    (reason-passes 4 (t .events) (onCycle t (closure t m)) _ (p .r4)
-    (reason-passes 5 (t .count) (reopening t (closure t m)) _ (p .r5)
-    (reason-passes 6 (t .count) (reviving t (closure t m)) _ (p .r6) refl)))))
+    reason-passes 1 (t .events) (unreportable t m) _ (p .none-unreportable)
+    (reason-passes 2 (t .events) (uncausable t (closure t m)) _ (p .none-uncausable)
+    (reason-passes 3 (t .count) (waiting t (closure t m)) _ (p .none-waiting)
+    (reason-passes 4 (t .events) (onCycle t (closure t m)) _ (p .none-on-cycle)
+    (reason-passes 5 (t .count) (reopening t (closure t m)) _ (p .none-reopening)
+    (reason-passes 6 (t .count) (reviving t (closure t m)) _ (p .none-reviving) refl)))))
 
 -- what reasons 1 and 5 look for among the relations
 module _ (t : Table) where
@@ -87,13 +95,13 @@ module _ (t : Table) (m : Marking) (good-t : GoodTable t) (X : ℕ) (p : Passed 
   unfolding unreportable
   reported e k b l h =
       affirmed (isControllable t e)
-      (λ q. clash (join (ap not q) (or-right (not (recordOf m e .included)) _ (some-at (stopping t e) (t .count) k l h))) (p .r1 e b))
+      (λ q. clash (join (ap not q) (or-right (not (recordOf m e .included)) _ (some-at (stopping t e) (t .count) k l h))) (p .none-unreportable e b))
 
   included : (e : ℕ) → e < t .events → isControllable t e ≡ false → recordOf m e .included ≡ true
   unfolding unreportable
   included e b h =
       affirmed (recordOf m e .included)
-      (λ q. clash (join (ap not h) (or-left (not (recordOf m e .included)) _ (ap not q))) (p .r1 e b))
+      (λ q. clash (join (ap not h) (or-left (not (recordOf m e .included)) _ (ap not q))) (p .none-unreportable e b))
 
   told-static : ((k : ℕ) → k < t .count → boundedResponse (relationOf t k) ≡ true → has X (relationOf t k .right) ≡ true)
       → ((k : ℕ) → k < t .count → followed (relationOf t k) ≡ true → has X (relationOf t k .left) ≡ true → has X (relationOf t k .right) ≡ true)
@@ -101,18 +109,20 @@ module _ (t : Table) (m : Marking) (good-t : GoodTable t) (X : ℕ) (p : Passed 
   unfolding uncausable waiting onCycle reopening reviving
   told-static busy-in closed =
       record {
-        x1 = busy-in;
-        x2 = closed;
-        x3 = λ e b h. affirmed (isCausable t e) (λ q. clash (join h (ap not q)) (p .r2 e b));
-        x4 = λ k b c h. let q = denied (ltb 0 (relationOf t k .time)) (λ l. clash (join (join c h) l) (p .r3 k b)) in omega (arith, ltb-false 0 (relationOf t k .time) q);
-        x5 = λ e b h. denied (has (awaited t e) e) (λ q. clash (join h q) (p .r4 e b));
-        x6 = λ k j b l r h s i q. clash
+        responses-in = busy-in;
+        closed = closed;
+        causable = λ e b h. affirmed (isCausable t e) (λ q. clash (join h (ap not q)) (p .none-uncausable e b));
+        untimed = λ k b c h. let q = denied (ltb 0 (relationOf t k .time)) (λ l. clash (join (join c h) l) (p .none-waiting k b)) in
+            omega (arith, ltb-false 0 (relationOf t k .time) q);
+        acyclic = λ e b h. denied (has (awaited t e) e) (λ q. clash (join h q) (p .none-on-cycle e b));
+        not-reopened = λ k j b l r h s i q. clash
             (join (join r h) (some-at (milestoned t X (relationOf t k .right)) (t .count) j l (join (join s i) (eq-eqb _ _ q))))
-            (p .r5 k b);
-        x7 = λ k b i h l. eqb-true _ _ (affirmed (eqb (relationOf t k .left) (relationOf t k .right)) (λ q. clash (join (join (join i h) l) (ap not q)) (p .r6 k b)));
-        x8-kept = λ k b h. let f = relationOf t k .right in
+            (p .none-reopening k b);
+        not-revived = λ k b i h l. eqb-true _ _
+            (affirmed (eqb (relationOf t k .left) (relationOf t k .right)) (λ q. clash (join (join (join i h) l) (ap not q)) (p .none-reviving k b)));
+        excluded-controllable = λ k b h. let f = relationOf t k .right in
             reported f k (good-t .relations-good k b .right-exists) b (or-left (isExclusion (relationOf t k) && eqb f f) _ (join h (eq-eqb f f refl)));
-        x8-free = λ k b h. let e = relationOf t k .left in
+        held-controllable = λ k b h. let e = relationOf t k .left in
             reported e k (good-t .relations-good k b .left-exists) b
             (or-right (isExclusion (relationOf t k) && eqb (relationOf t k .right) e) _ (join h (eq-eqb e e refl)));
       }
@@ -123,27 +133,31 @@ module _ (t : Table) (X C : ℕ) (st : Static t X) (m : Marking) (v : Invariant 
   unfolding unreportable uncausable waiting onCycle reopening reviving
   no-reason =
       record {
-        r1 = λ e b. denied (unreportable t m e) (λ h. let p = both (not (isControllable t e)) _ h in unreported e b (not-true (isControllable t e) (p .0)) (p .1));
-        r2 = λ e b. denied (uncausable t C e) (λ h. let p = both (has C e) (not (isCausable t e)) h in
-            clash (st .x3 e b (within e (p .0))) (not-true (isCausable t e) (p .1)));
-        r3 = λ k b. denied (waiting t C k) (λ h. let p = both (isCondition (relationOf t k) && has C (relationOf t k .left)) (ltb 0 (relationOf t k .time)) h in
+        none-unreportable = λ e b. denied (unreportable t m e) (λ h. let p = both (not (isControllable t e)) _ h in
+            unreported e b (not-true (isControllable t e) (p .0)) (p .1));
+        none-uncausable = λ e b. denied (uncausable t C e) (λ h. let p = both (has C e) (not (isCausable t e)) h in
+            clash (st .causable e b (within e (p .0))) (not-true (isCausable t e) (p .1)));
+        none-waiting = λ k b. denied (waiting t C k) (λ h.
+            let p = both (isCondition (relationOf t k) && has C (relationOf t k .left)) (ltb 0 (relationOf t k .time)) h in
             let q = both (isCondition (relationOf t k)) (has C (relationOf t k .left)) (p .0) in
-            omega (arith, ltb-true 0 (relationOf t k .time) (p .1), st .x4 k b (q .0) (within _ (q .1))));
-        r4 = λ e b. denied (onCycle t C e) (λ h. let p = both (has C e) (has (awaited t e) e) h in clash (p .1) (st .x5 e b (within e (p .0))));
-        r5 = λ k b. denied (reopening t C k) (λ h. let p = both (isResponse (relationOf t k) && has C (relationOf t k .left)) _ h in
+            omega (arith, ltb-true 0 (relationOf t k .time) (p .1), st .untimed k b (q .0) (within _ (q .1))));
+        none-on-cycle = λ e b. denied (onCycle t C e) (λ h. let p = both (has C e) (has (awaited t e) e) h in clash (p .1) (st .acyclic e b (within e (p .0))));
+        none-reopening = λ k b. denied (reopening t C k) (λ h. let p = both (isResponse (relationOf t k) && has C (relationOf t k .left)) _ h in
             let q = both (isResponse (relationOf t k)) (has C (relationOf t k .left)) (p .0) in
             awaits k b (q .0) (within _ (q .1)) (p .1));
-        r6 = λ k b. denied (reviving t C k) (λ h. let p = both (isInclusion (relationOf t k) && has C (relationOf t k .left) && has C (relationOf t k .right)) (not (eqb (relationOf t k .left) (relationOf t k .right))) h in
+        none-reviving = λ k b. denied (reviving t C k) (λ h.
+            let own = eqb (relationOf t k .left) (relationOf t k .right) in
+            let p = both (isInclusion (relationOf t k) && has C (relationOf t k .left) && has C (relationOf t k .right)) (not own) h in
             let q = both (isInclusion (relationOf t k) && has C (relationOf t k .left)) (has C (relationOf t k .right)) (p .0) in
             let r = both (isInclusion (relationOf t k)) (has C (relationOf t k .left)) (q .0) in
-            clash (eq-eqb _ _ (st .x7 k b (r .0) (within _ (r .1)) (within _ (q .1)))) (not-true (eqb (relationOf t k .left) (relationOf t k .right)) (p .1)));
+            clash (eq-eqb _ _ (st .not-revived k b (r .0) (within _ (r .1)) (within _ (q .1)))) (not-true own (p .1)));
       }
     where
       -- reason 1
       unreported : (e : ℕ) → e < t .events → isControllable t e ≡ false → not (recordOf m e .included) || some (t .count) (stopping t e) ≡ true → ⊥
       unreported e b c h =
           ⊎-elim
-          (λ p. clash (v .j2 e b c) (not-true (recordOf m e .included) p))
+          (λ p. clash (v .uncontrollable-included e b c) (not-true (recordOf m e .included) p))
           (λ p. let k = some-where (stopping t e) (t .count) p in against (k .0) (k .1) (k .2))
           (either (not (recordOf m e .included)) (some (t .count) (stopping t e)) h)
         where
@@ -153,8 +167,10 @@ module _ (t : Table) (X C : ℕ) (st : Static t X) (m : Marking) (v : Invariant 
           against : (k : ℕ) → k < t .count → stopping t e k ≡ true → ⊥
           against k l q =
               ⊎-elim
-              (λ i. let r = both (isExclusion (relationOf t k)) (eqb (relationOf t k .right) e) i in controlled (relationOf t k .right) (r .1) (st .x8-kept k l (r .0)))
-              (λ i. let r = both (inhibits (relationOf t k)) (eqb (relationOf t k .left) e) i in controlled (relationOf t k .left) (r .1) (st .x8-free k l (r .0)))
+              (λ i. let r = both (isExclusion (relationOf t k)) (eqb (relationOf t k .right) e) i in
+              controlled (relationOf t k .right) (r .1) (st .excluded-controllable k l (r .0)))
+              (λ i. let r = both (inhibits (relationOf t k)) (eqb (relationOf t k .left) e) i in
+              controlled (relationOf t k .left) (r .1) (st .held-controllable k l (r .0)))
               (either (isExclusion (relationOf t k) && eqb (relationOf t k .right) e) (inhibits (relationOf t k) && eqb (relationOf t k .left) e) q)
 
       -- reason 5
@@ -162,9 +178,10 @@ module _ (t : Table) (X C : ℕ) (st : Static t X) (m : Marking) (v : Invariant 
           → some (t .count) (milestoned t C (relationOf t k .right)) ≡ true → ⊥
       awaits k b r h s =
           let j = some-where (milestoned t C (relationOf t k .right)) (t .count) s in
-          let p = both (isMilestone (relationOf t (j .0)) && has C (relationOf t (j .0) .left)) (eqb (relationOf t (j .0) .right) (relationOf t k .right)) (j .2) in
-          let q = both (isMilestone (relationOf t (j .0))) (has C (relationOf t (j .0) .left)) (p .0) in
-          st .x6 k (j .0) b (j .1) r h (q .0) (within _ (q .1)) (eqb-true _ _ (p .1))
+          let found = relationOf t (j .0) in
+          let p = both (isMilestone found && has C (found .left)) (eqb (found .right) (relationOf t k .right)) (j .2) in
+          let q = both (isMilestone found) (has C (found .left)) (p .0) in
+          st .not-reopened k (j .0) b (j .1) r h (q .0) (within _ (q .1)) (eqb-true _ _ (p .1))
 
 -- what is busy in the marking, or for the table
 module _ (t : Table) (m : Marking) (x : ℕ) where
@@ -190,13 +207,13 @@ module _ (t : Table) (m : Marking) (x : ℕ) where
   unfolding busy
   busy-asked k b h q = or-right (underDeadline (recordOf m x)) _ (some-at bounds (t .count) k b (join h (eq-eqb (relationOf t k .right) x q)))
 
--- the closure is the least set with the facts X1, X2 and J1
+-- the closure is the least set that has the bounded responses, is closed, and has what is under a deadline
 pub closure-least : (t : Table) (X : ℕ) → Static t X → (m : Marking) → Invariant t X m → (x : ℕ) → has (closure t m) x ≡ true → has X x ≡ true
 closure-least t X st m v =
-    closure-within t (good t m (v .judged-done) .table-good) m (λ x. has X x ≡ true) (st .x2)
-    (λ x b h. busy-within t m x (λ y. has X y ≡ true) (v .j1 x b) (st .x1) h)
+    closure-within t (good t m (v .judged-done) .table-good) m (λ x. has X x ≡ true) (st .closed)
+    (λ x b h. busy-within t m x (λ y. has X y ≡ true) (v .deadlines-in x b) (st .responses-in) h)
 
--- Lemma 1
+-- a set with the facts is enough for the check to accept
 pub suffices : (t : Table) (X : ℕ) → Static t X → (m : Marking) → Invariant t X m → verdict t m ≡ Accepts
 suffices t X st m v = passes t m (no-reason t X (closure t m) st m v (closure-least t X st m v))
 
@@ -214,8 +231,8 @@ module _ (t : Table) (m : Marking) (done : judged t m ≡ 0) (accepts : verdict 
   closure-invariant =
       record {
         judged-done = done;
-        j1 = λ x b h. closure-busy t good-t m x b (busy-marked t m x h);
-        j2 = included t m good-t (closure t m) (passed t m accepts);
+        deadlines-in = λ x b h. closure-busy t good-t m x b (busy-marked t m x h);
+        uncontrollable-included = included t m good-t (closure t m) (passed t m accepts);
       }
 
 -- a check that accepts: judged values and an accepting verdict, and the other way round

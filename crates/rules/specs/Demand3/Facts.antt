@@ -7,7 +7,7 @@ use mathlib.Core.Logic.{_⊎_, ⊎-elim, inl, inr}
 use Prim.Native.Nat.{ℕ, _<_, _≤_, _-_}
 use lib.Dec.{eqb, ltb}
 use lib.ListN.{getD, length, List·getD-eq-default}
-use borrow.Author.Tests.{eqb-true, eq-eqb, ne-eqb, ltb-true, ltb-false, le-leb}
+use borrow.Author.Tests.{eqb-true, eq-eqb, ltb-true, ltb-false, le-leb}
 use Rattle.rules.specs.declared.Relation.{Relation}
 use Rattle.rules.specs.declared.Table.{Table}
 use Rattle.rules.specs.declared.Record.{Record}
@@ -15,14 +15,16 @@ use Rattle.rules.specs.declared.Marking.{Marking}
 use Rattle.rules.specs.Counting.{some, eachBelow}
 use Rattle.rules.specs.Holds.{mostEvents, isResponse, isInclusion, isExclusion, emptyRecord, relationOf, recordOf, withRecords}
 use Rattle.rules.specs.Judge.{eventsFit, tableNumber, recordFits, recordNumber, markingNumber, markingNumberFor, judged}
-use Rattle.rules.specs.Effect.{Deadline, within, eventually, deadlineOf, isPending, isBounded, leads, excludes, includes, response, effectAt, effect}
+use Rattle.rules.specs.Effect.{Deadline, within, eventually, isPending, isBounded, leads, excludes, includes, response, effectAt, effect}
 use Rattle.rules.specs.Time.{later, time}
 use Rattle.rules.specs.Laws.Tests.{clash, denied, both, join}
 use Rattle.rules.specs.Laws.Counting.{some-where, length-each-below, each-below-changed}
 use Rattle.rules.specs.Laws.Numbers.{if-kept, both-done, first-done}
-use Rattle.rules.specs.Laws.Judge.{GoodTable, Good, good}
+use Rattle.rules.specs.Shapes.Good.{GoodTable}
+use Rattle.rules.specs.Laws.Judge.{good}
 use Rattle.rules.specs.Demand3.Response.{asked, Responds, response-gives}
-use Rattle.rules.specs.Demand3.Records.{underDeadline, ranOut, at-included, at-happened, at-age, at-pending, at-under, at-out, at-response, at-fits, at-undisturbed, later-fits}
+use Rattle.rules.specs.Demand3.Records.{underDeadline, ranOut, at-included, at-happened, at-pending, at-under, at-out}
+use Rattle.rules.specs.Demand3.Records.{at-fits, at-undisturbed, later-fits}
 
 -- a relation of some kind leads from e to x
 pub record Linked (t : Table) (kind : Relation → Bool) (e x : ℕ) : Type 0 where
@@ -50,7 +52,8 @@ module _ (f : ℕ → Record → Record) (m : Marking) (x : ℕ) (b : x < m .eve
     where
       go : (there : Bool) → ltb x (length (m .records)) ≡ there → P (recordOf m x) (getD (eachBelow (m .events) f (m .records)) x emptyRecord)
       go true e =
-          subst (P (recordOf m x)) (sym (each-below-changed (m .events) f (m .records) x emptyRecord (ltb-true x (length (m .records)) e) b)) (each (recordOf m x))
+          subst (P (recordOf m x))
+          (sym (each-below-changed (m .events) f (m .records) x emptyRecord (ltb-true x (length (m .records)) e) b)) (each (recordOf m x))
       go false e =
           let past : length (m .records) ≤ x = ltb-false x (length (m .records)) e in
           let same : length (eachBelow (m .events) f (m .records)) ≡ length (m .records) = length-each-below (m .events) f (m .records) in
@@ -66,16 +69,17 @@ pub time-events : (m : Marking) → time m .events ≡ m .events
 unfolding time
 time-events m = refl
 
--- S1 to S10, and V: the effect of any event e of a table on the record of any event x, e enabled or not.
+-- The effect of any event e of a table on the record of any event x, e enabled or not.
 module _ (t : Table) (m : Marking) (e x : ℕ) (b : x < m .events) where
-  at-effect : (P : Record → Record → Type 0) → P emptyRecord emptyRecord → ((r : Record) → P r (effectAt t e x r)) → P (recordOf m x) (recordOf (effect t m e) x)
+  at-effect : (P : Record → Record → Type 0) → P emptyRecord emptyRecord → ((r : Record) → P r (effectAt t e x r))
+      → P (recordOf m x) (recordOf (effect t m e) x)
   unfolding effect
   at-effect = changed (effectAt t e) m x b
 
-  -- S1: included afterwards, x was included or is included by e
-  pub s1 : recordOf (effect t m e) x .included ≡ true → (recordOf m x .included ≡ true) ⊎ Linked t isInclusion e x
+  -- included afterwards, x was included or is included by e
+  pub included-by : recordOf (effect t m e) x .included ≡ true → (recordOf m x .included ≡ true) ⊎ Linked t isInclusion e x
   unfolding includes
-  s1 = at-effect (λ r s. s .included ≡ true → (r .included ≡ true) ⊎ Linked t isInclusion e x) (λ h. inl h)
+  included-by = at-effect (λ r s. s .included ≡ true → (r .included ≡ true) ⊎ Linked t isInclusion e x) (λ h. inl h)
       (λ r h. go r (includes t e x) (excludes t e x) refl (sym (at-included t e x r) ∙ h))
     where
       go : (r : Record) (i o : Bool) → includes t e x ≡ i → cond i true (cond o false (r .included)) ≡ true → (r .included ≡ true) ⊎ Linked t isInclusion e x
@@ -83,10 +87,10 @@ module _ (t : Table) (m : Marking) (e x : ℕ) (b : x < m .events) where
       go r false true p h = absurd (clash h refl)
       go r false false p h = inl h
 
-  -- S2: an included event stays so unless e excludes it
-  pub s2 : (Linked t isExclusion e x → ⊥) → recordOf m x .included ≡ true → recordOf (effect t m e) x .included ≡ true
+  -- an included event stays so unless e excludes it
+  pub included-stays : (Linked t isExclusion e x → ⊥) → recordOf m x .included ≡ true → recordOf (effect t m e) x .included ≡ true
   unfolding excludes
-  s2 kept = at-effect (λ r s. r .included ≡ true → s .included ≡ true) (λ h. h) (λ r h. at-included t e x r ∙ go r h (includes t e x))
+  included-stays kept = at-effect (λ r s. r .included ≡ true → s .included ≡ true) (λ h. h) (λ r h. at-included t e x r ∙ go r h (includes t e x))
     where
       none : excludes t e x ≡ false
       none = denied (excludes t e x) (λ h. kept (linked t isExclusion e x h))
@@ -95,25 +99,25 @@ module _ (t : Table) (m : Marking) (e x : ℕ) (b : x < m .events) where
       go r h true = refl
       go r h false = rw (none, h)
 
-  -- S3: what has happened stays so
-  pub s3 : recordOf m x .happened ≡ true → recordOf (effect t m e) x .happened ≡ true
-  s3 = at-effect (λ r s. r .happened ≡ true → s .happened ≡ true) (λ h. h) (λ r h. at-happened t e x r ∙ go r h (eqb x e))
+  -- what has happened stays so
+  pub happened-stays : recordOf m x .happened ≡ true → recordOf (effect t m e) x .happened ≡ true
+  happened-stays = at-effect (λ r s. r .happened ≡ true → s .happened ≡ true) (λ h. h) (λ r h. at-happened t e x r ∙ go r h (eqb x e))
     where
       go : (r : Record) → r .happened ≡ true → (i : Bool) → cond i true (r .happened) ≡ true
       go r h true = refl
       go r h false = h
 
-  -- S4: pending afterwards, it was pending and is not e, or e responds to it
-  pub s4 : recordOf (effect t m e) x .pending ≡ true → ((recordOf m x .pending ≡ true) × (x ≡ e → ⊥)) ⊎ Linked t isResponse e x
-  s4 = at-effect (λ r s. s .pending ≡ true → ((r .pending ≡ true) × (x ≡ e → ⊥)) ⊎ Linked t isResponse e x) (λ h. absurd (clash h refl))
+  -- pending afterwards, it was pending and is not e, or e responds to it
+  pub pending-by : recordOf (effect t m e) x .pending ≡ true → ((recordOf m x .pending ≡ true) × (x ≡ e → ⊥)) ⊎ Linked t isResponse e x
+  pending-by = at-effect (λ r s. s .pending ≡ true → ((r .pending ≡ true) × (x ≡ e → ⊥)) ⊎ Linked t isResponse e x) (λ h. absurd (clash h refl))
       (λ r h. ⊎-elim (λ p. inl p) (λ p. inr (by (response-gives t e x p))) (at-pending t e x r h))
     where
       by : {d : Deadline} → Responds t e x d → Linked t isResponse e x
       by g = record { relation = g .relation; exists = g .exists; is = g .responds; from = g .from; to = g .to }
 
-  -- S5: under a deadline afterwards, it was and is not e, or e gives it one
-  pub s5 : underDeadline (recordOf (effect t m e) x) ≡ true → ((underDeadline (recordOf m x) ≡ true) × (x ≡ e → ⊥)) ⊎ Linked t boundedResponse e x
-  s5 = at-effect (λ r s. underDeadline s ≡ true → ((underDeadline r ≡ true) × (x ≡ e → ⊥)) ⊎ Linked t boundedResponse e x) (λ h. absurd (clash h refl))
+  -- under a deadline afterwards, it was and is not e, or e gives it one
+  pub deadline-by : underDeadline (recordOf (effect t m e) x) ≡ true → ((underDeadline (recordOf m x) ≡ true) × (x ≡ e → ⊥)) ⊎ Linked t boundedResponse e x
+  deadline-by = at-effect (λ r s. underDeadline s ≡ true → ((underDeadline r ≡ true) × (x ≡ e → ⊥)) ⊎ Linked t boundedResponse e x) (λ h. absurd (clash h refl))
       (λ r h. ⊎-elim (λ p. inl p) (λ p. inr (by (response-gives t e x (p .0)) (p .1))) (at-under t e x r h))
     where
       bounded-asked : (k : Relation) → isBounded (asked k) ≡ true → k .bounded ≡ true
@@ -128,40 +132,29 @@ module _ (t : Table) (m : Marking) (e x : ℕ) (b : x < m .events) where
           let bounded = bounded-asked (relationOf t (g .relation)) (sym (ap isBounded (g .gives)) ∙ h) in
           record { relation = g .relation; exists = g .exists; is = join (g .responds) bounded; from = g .from; to = g .to }
 
-  -- S6: a deadline that has run out afterwards had run out before, and is not e's
-  pub s6 : GoodTable t → ranOut (recordOf (effect t m e) x) ≡ true → (ranOut (recordOf m x) ≡ true) × (x ≡ e → ⊥)
-  s6 good = at-effect (λ r s. ranOut s ≡ true → (ranOut r ≡ true) × (x ≡ e → ⊥)) (λ h. absurd (clash h refl)) (at-out t e x good)
+  -- a deadline that has run out afterwards had run out before, and is not e's
+  pub run-out-before : GoodTable t → ranOut (recordOf (effect t m e) x) ≡ true → (ranOut (recordOf m x) ≡ true) × (x ≡ e → ⊥)
+  run-out-before good = at-effect (λ r s. ranOut s ≡ true → (ranOut r ≡ true) × (x ≡ e → ⊥)) (λ h. absurd (clash h refl)) (at-out t e x good)
 
-  -- S7: with no response to x, and x another event, its deadline stays
-  pub s7 : (x ≡ e → ⊥) → isPending (response t e x) ≡ false
+  -- with no response to x, and x another event, its deadline stays
+  pub deadline-stays : (x ≡ e → ⊥) → isPending (response t e x) ≡ false
       → (recordOf (effect t m e) x .pending ≡ recordOf m x .pending) × (recordOf (effect t m e) x .bounded ≡ recordOf m x .bounded)
       × (recordOf (effect t m e) x .deadline ≡ recordOf m x .deadline)
-  s7 other unasked =
+  deadline-stays other unasked =
       at-effect (λ r s. (s .pending ≡ r .pending) × (s .bounded ≡ r .bounded) × (s .deadline ≡ r .deadline)) (refl, refl, refl)
       (λ r. at-undisturbed t e x r other unasked)
 
-  -- S8: another event's age, and whether it happened, stay
-  pub s8 : (x ≡ e → ⊥) → (recordOf (effect t m e) x .happened ≡ recordOf m x .happened) × (recordOf (effect t m e) x .age ≡ recordOf m x .age)
-  s8 other =
-      at-effect (λ r s. (s .happened ≡ r .happened) × (s .age ≡ r .age)) (refl, refl)
-      (λ r. (at-happened t e x r ∙ rw (ne-eqb x e other), at-age t e x r ∙ rw (ne-eqb x e other)))
-
-  -- S9: an included target of responses gets the smallest of them (S10, that a deadline comes no later, is the other rule's:
-  -- `responded-nearer` by `smaller-nearer`)
-  pub s9 : isPending (response t e x) ≡ true → recordOf m x .included ≡ true → deadlineOf (recordOf (effect t m e) x) ≡ response t e x
-  s9 h = at-effect (λ r s. r .included ≡ true → deadlineOf s ≡ response t e x) (λ i. absurd (clash i refl)) (λ r i. at-response t e x r h)
-
-  -- V: a record that fits still does
+  -- a record that fits still does
   pub effect-fits : GoodTable t → recordFits (recordOf m x) ≡ true → recordFits (recordOf (effect t m e) x) ≡ true
   effect-fits good = at-effect (λ r s. recordFits r ≡ true → recordFits s ≡ true) (λ h. h) (at-fits t e x good)
 
--- S3 of the executed event itself, which has a place since it is included
-pub s3-own : (t : Table) (m : Marking) (e : ℕ) → e < m .events → recordOf m e .included ≡ true → recordOf (effect t m e) e .happened ≡ true
-s3-own t m e b =
+-- the executed event itself has happened; it has a place since it is included
+pub happened-own : (t : Table) (m : Marking) (e : ℕ) → e < m .events → recordOf m e .included ≡ true → recordOf (effect t m e) e .happened ≡ true
+happened-own t m e b =
     at-effect t m e e b (λ r s. r .included ≡ true → s .happened ≡ true) (λ h. h)
     (λ r h. at-happened t e e r ∙ rw (eq-eqb e e refl))
 
--- T1, T2, V: one tick.
+-- One tick.
 module _ (m : Marking) (x : ℕ) (b : x < m .events) where
   pub at-time : recordOf (time m) x ≡ later (recordOf m x)
   unfolding time later
@@ -189,17 +182,6 @@ module _ (m : Marking) (x : ℕ) (b : x < m .events) where
 
   pub time-fits : recordFits (recordOf m x) ≡ true → recordFits (recordOf (time m) x) ≡ true
   time-fits h = subst (λ r. recordFits r ≡ true) (sym at-time) (later-fits (recordOf m x) h)
-
--- V, for the whole: a marking that is good, or judged 'done', still is.
-pub effect-good : (t : Table) (m : Marking) (e : ℕ) → Good t m → Good t (effect t m e)
-unfolding effect
-effect-good t m e g = record {
-  table-good = g .table-good;
-  marking-good = record {
-    same-events = g .marking-good .same-events;
-    records-fit = λ x b. effect-fits t m e x (rw (g .marking-good .same-events) b) (g .table-good) (g .marking-good .records-fit x b);
-  };
-}
 
 again : (t : Table) (m n : Marking) → judged t m ≡ 0 → n .events ≡ m .events
     → ((x : ℕ) → x < m .events → recordFits (recordOf m x) ≡ true → recordFits (recordOf n x) ≡ true) → judged t n ≡ 0

@@ -9,6 +9,7 @@ use native.Mathlib.Omega.{arith}
 use borrow.Author.Tests.{lt-ltb}
 use Rattle.rules.specs.declared.Table.{Table}
 use Rattle.rules.specs.declared.Marking.{Marking}
+use Rattle.rules.specs.Counting.{times}
 use Rattle.rules.specs.EventSet.{has}
 use Rattle.rules.specs.Holds.{recordOf}
 use Rattle.rules.specs.Enabled.{isEnabled}
@@ -17,9 +18,10 @@ use Rattle.rules.specs.Guard.{needed, order, goesAhead, taken, takenAll,
 use Rattle.rules.specs.Remedy.{inTurn, effects}
 use Rattle.rules.specs.Laws.Tests.{decide, join}
 use Rattle.rules.specs.Laws.Counting.{some-false}
-use Rattle.rules.specs.Laws.Judge.{GoodTable, good}
+use Rattle.rules.specs.Shapes.Good.{GoodTable}
+use Rattle.rules.specs.Laws.Judge.{good}
 use Rattle.rules.specs.Laws.Needed.{needed-exists, needed-none}
-use Rattle.rules.specs.Laws.Order.{times, Takes, none-left, next, order-is, stays, takes-at-most-once, takes-only, takes-none}
+use Rattle.rules.specs.Laws.Order.{Takes, none-left, next, order-is, stays, takes-at-most-once, takes-only, takes-none}
 use Rattle.rules.specs.Laws.Taken.{taken-in, taken-out, taken-effects, executed-fewer}
 use Rattle.rules.specs.Demand3.Invariant.{Static, Invariant}
 use Rattle.rules.specs.Demand3.Progress.{Loop, needed-in, loop-start, loop-turn, turn-enabled, none-due}
@@ -36,7 +38,7 @@ module _ (t : Table) (X : ℕ) (st : Static t X) (o : Marking) (j : Invariant t 
       → Takes t untaken l → Loop t X o untaken m
       → (inTurn t m (executedOf t m l) ≡ true) × ((x : ℕ) → x < t .events → isDue (recordOf (takenAll t m l) x) ≡ false) × (takenAll t m l .events ≡ t .events)
   unfolding executedOf takenAll inTurn
-  along m sub (none-left {untaken} h) v = (refl, none-due t X st o j untaken m v h, v .i0)
+  along m sub (none-left {untaken} h) v = (refl, none-due t X st o j untaken m v h, v .same-events)
   along m sub (next {untaken} {e} {rest} b u before r) v =
       let need = sub e u in
       let then = along (taken t m e) (λ x p. sub x (stays t untaken e x u p)) r (loop-turn t X st o j untaken m v e b u need) in
@@ -48,12 +50,12 @@ module _ (t : Table) (X : ℕ) (st : Static t X) (o : Marking) (j : Invariant t 
           let on : Marking → Type 0 = λ n. inTurn t n (executedOf t (taken t m e) rest) ≡ true in
           ⊎-elim
           (λ (i : goesAhead t m e ≡ true). rw i
-          (join (join (join (lt-ltb e (t .events) b) (st .x3 e b (needed-in t X st o j e (sub e u)))) (enabled i)) (subst on (taken-in t m e i) h)))
+          (join (join (join (lt-ltb e (t .events) b) (st .causable e b (needed-in t X st o j e (sub e u)))) (enabled i)) (subst on (taken-in t m e i) h)))
           (λ (i : goesAhead t m e ≡ false). rw i (subst on (taken-out t m e i) h))
           (decide (goesAhead t m e))
 
   takes : Takes t (needed t o) (order t o)
-  takes = order-is t good-t o (λ x h. st .x5 x (needed-exists t good-t o same-o x h) (needed-in t X st o j x h))
+  takes = order-is t good-t o (λ x h. st .acyclic x (needed-exists t good-t o same-o x h) (needed-in t X st o j x h))
 
   pub caused-in-turn : inTurn t o (caused t o) ≡ true
   unfolding caused

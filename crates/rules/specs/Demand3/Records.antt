@@ -12,10 +12,11 @@ use Rattle.rules.specs.declared.Table.{Table}
 use Rattle.rules.specs.declared.Record.{Record}
 use Rattle.rules.specs.Holds.{limit}
 use Rattle.rules.specs.Judge.{recordFits}
-use Rattle.rules.specs.Effect.{Deadline, none, eventually, within, deadlineOf, isPending, isBounded, ticksOf, withDeadline, meets, excludes, includes, response, executed, withInclusion, effectAt}
+use Rattle.rules.specs.Effect.{Deadline, none, eventually, within, deadlineOf, isPending, isBounded, ticksOf, withDeadline, meets}
+use Rattle.rules.specs.Effect.{excludes, includes, response, executed, withInclusion, effectAt}
 use Rattle.rules.specs.Time.{isDue, later}
 use Rattle.rules.specs.Laws.Tests.{decide, clash, both, join}
-use Rattle.rules.specs.Laws.Judge.{GoodTable}
+use Rattle.rules.specs.Shapes.Good.{GoodTable}
 use Rattle.rules.specs.Demand3.Response.{Picks, meets-picks, isZero, response-timely}
 
 -- pending with a deadline, included or not; and with a deadline that has run out
@@ -129,21 +130,6 @@ module _ (rule : Deadline → Deadline → Deadline) (picks : Picks rule) where
       given-back eventually = refl
       given-back (within d) = refl
 
-  -- by a rule that never takes a deadline away nor makes it later, a record under a deadline stays so, with one that is no later
-  pub responded-nearer : ((old new : Deadline) → isBounded old ≡ true → (isBounded (rule old new) ≡ true) × (ticksOf (rule old new) ≤ ticksOf old))
-      → (new : Deadline) (r : Record) → underDeadline r ≡ true → (underDeadline (respondedBy new r) ≡ true) × (respondedBy new r .deadline ≤ r .deadline)
-  unfolding withDeadline boundedly
-  responded-nearer nears new r h = go (isPending new)
-    where
-      ticks : ticksOf (deadlineOf r) ≡ r .deadline
-      ticks = let p = both (r .pending) (r .bounded) h in rw (p .0, p .1)
-
-      go : (b : Bool) → (underDeadline (cond b (withDeadline r (rule (deadlineOf r) new)) r) ≡ true) × (cond b (withDeadline r (rule (deadlineOf r) new)) r .deadline ≤ r .deadline)
-      go true =
-          let n = nears (deadlineOf r) new (boundedly .of-it r ∙ h) in
-          (boundedly .given-it r (rule (deadlineOf r) new) ∙ n .0, omega (arith, n .1, ticks))
-      go false = (h, omega arith)
-
   -- what is seen afterwards was seen before, or is so of the response
   responded-seen : (a : Aspect) (new : Deadline) (r : Record) → a .seen (respondedBy new r) ≡ true
       → (a .seen r ≡ true) ⊎ ((isPending new ≡ true) × (a .test new ≡ true))
@@ -165,7 +151,8 @@ module _ (rule : Deadline → Deadline → Deadline) (picks : Picks rule) where
   unfolding recordFits withDeadline
   responded-fits new r small h = go (isPending new)
     where
-      p : (leb (r .age) (cond (r .happened) limit 0) ≡ true) × (cond (r .pending) true (not (r .bounded)) && leb (r .deadline) (cond (r .bounded) limit 0) ≡ true)
+      p : (leb (r .age) (cond (r .happened) limit 0) ≡ true)
+          × (cond (r .pending) true (not (r .bounded)) && leb (r .deadline) (cond (r .bounded) limit 0) ≡ true)
       p = both (leb (r .age) (cond (r .happened) limit 0)) _ h
 
       old : ticksOf (deadlineOf r) ≤ limit

@@ -5,7 +5,7 @@ use mathlib.Core.Path.{_≡_, refl, ap, sym, subst}
 use mathlib.Core.Bool.{Bool, true, false, _&&_, cond}
 use mathlib.Core.Logic.{_⊎_, ⊎-elim, inl, inr}
 use Prim.Native.Nat.{ℕ, zero, suc, _<_, _≤_, min}
-use native.Mathlib.Nat.{min-eq-left, min-eq-right, min-le-left, le-of-lt}
+use native.Mathlib.Nat.{min-eq-left, min-eq-right, le-of-lt}
 use native.Mathlib.Omega.{arith}
 use lib.Dec.{eqb, leb}
 use borrow.Author.Tests.{eqb-true, ne-eqb, leb-true, leb-false}
@@ -13,9 +13,9 @@ use Rattle.rules.specs.declared.Relation.{Relation}
 use Rattle.rules.specs.declared.Table.{Table}
 use Rattle.rules.specs.Holds.{limit, isCondition, isResponse, relationOf}
 use Rattle.rules.specs.Judge.{timeFits}
-use Rattle.rules.specs.Effect.{Deadline, none, eventually, within, smaller, isPending, isBounded, ticksOf, meets, leads, given, smallest, response}
+use Rattle.rules.specs.Effect.{Deadline, none, eventually, within, smaller, isPending, ticksOf, meets, leads, given, smallest, response}
 use Rattle.rules.specs.Laws.Tests.{clash, both}
-use Rattle.rules.specs.Laws.Judge.{GoodTable}
+use Rattle.rules.specs.Shapes.Good.{GoodTable}
 
 -- a deadline that has run out
 abbrev pub isZero : Deadline → Bool
@@ -42,14 +42,6 @@ smaller-picks (within c) (within d) = go (leb c d) refl
     go : (b : Bool) → leb c d ≡ b → (within (min c d) ≡ within c) ⊎ (within (min c d) ≡ within d)
     go true e = inl (ap within (min-eq-left (leb-true c d e)))
     go false e = inr (ap within (min-eq-right (le-of-lt (leb-false c d e))))
-
--- the rule that keeps the smaller never takes a deadline away, nor makes it later
-pub smaller-nearer : (old new : Deadline) → isBounded old ≡ true → (isBounded (smaller old new) ≡ true) × (ticksOf (smaller old new) ≤ ticksOf old)
-smaller-nearer none new h = absurd (clash h refl)
-smaller-nearer eventually new h = absurd (clash h refl)
-smaller-nearer (within c) none h = (refl, omega arith)
-smaller-nearer (within c) eventually h = (refl, omega arith)
-smaller-nearer (within c) (within d) h = (refl, min-le-left c d)
 
 -- today's rule
 pub meets-picks : Picks meets

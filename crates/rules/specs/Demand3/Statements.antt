@@ -20,12 +20,15 @@ use Rattle.rules.specs.Closure.{closure}
 use Rattle.rules.specs.Check.{check}
 use Rattle.rules.specs.Guard.{guardedTick}
 use Rattle.rules.specs.Trace.{endOf}
+use Rattle.rules.specs.Promised.{Promise}
+use Rattle.rules.specs.History.{Act, after, passesIn, historyOf}
+use Rattle.rules.specs.Deadline.{Duty, Settles, Met}
 use Rattle.rules.specs.Laws.Judge.{good}
 use Rattle.rules.specs.Demand3.Invariant.{Static, Invariant, always-reported}
 use Rattle.rules.specs.Demand3.Accepts.{closure-static, closure-invariant, closure-least, suffices, check-parts, check-accepts}
-use Rattle.rules.specs.Demand3.History.{Act, after, passesIn, historyOf, after-history}
-use Rattle.rules.specs.Demand3.Deadline.{Duty, Settles, Met, Calm, calm-rest, kept, history-calm, deadline-met, settled-or-stays}
-use Rattle.rules.specs.Demand3.Promise.{Promise, promised}
+use Rattle.rules.specs.Demand3.Leading.{after-history}
+use Rattle.rules.specs.Demand3.Calm.{Calm, calm-rest, kept, history-calm, deadline-met, settled-or-stays}
+use Rattle.rules.specs.Demand3.Keeping.{promised}
 
 module _ (t : Table) (m : Marking) (accepted : check t m ≡ Accepts) where
   -- one set, and one invariant

@@ -15,8 +15,8 @@ use Rattle.rules.specs.Check.{awaited}
 use Rattle.rules.specs.Laws.Tests.{both, join}
 use Rattle.rules.specs.Laws.Counting.{some-where, some-at}
 use Rattle.rules.specs.Laws.EventSet.{set-lt-power, set-has, set-holds}
-use Rattle.rules.specs.Laws.Judge.{GoodTable}
-use Rattle.rules.specs.Laws.Widened.{has-below, fully-within, fully-contains, fully-fits, fully-word, fully-closed}
+use Rattle.rules.specs.Shapes.Good.{GoodTable}
+use Rattle.rules.specs.Laws.Widened.{fully-within, fully-contains, fully-fits, fully-closed}
 
 -- a followed relation, and the events at its ends
 module _ (t : Table) where
@@ -65,13 +65,6 @@ module _ (t : Table) (good : GoodTable t) where
     unfolding closure
     closure-fits = fully-fits t (along t) start (set-lt-power (busy t m) (t .events))
 
-    pub closure-word : closure t m < 2 ^ 64
-    unfolding closure
-    closure-word = fully-word t (along t) (good .few-events) start (set-lt-power (busy t m) (t .events))
-
-    pub closure-exists : (x : ℕ) → has (closure t m) x ≡ true → x < t .events
-    closure-exists x h = has-below (t .events) (closure t m) x closure-fits h
-
     pub closure-busy : (x : ℕ) → x < t .events → busy t m x ≡ true → has (closure t m) x ≡ true
     unfolding closure
     closure-busy x b h = fully-contains t (along t) start x b (set-has (busy t m) (t .events) x b ∙ h)
@@ -92,20 +85,6 @@ module _ (t : Table) (good : GoodTable t) where
   module _ (e : ℕ) where
     abbrev next : ℕ
     next = setOf (t .events) (follows t e)
-
-    pub awaited-fits : awaited t e < 2 ^ t .events
-    unfolding awaited
-    awaited-fits = fully-fits t (along t) next (set-lt-power (follows t e) (t .events))
-
-    pub awaited-word : awaited t e < 2 ^ 64
-    unfolding awaited
-    awaited-word = fully-word t (along t) (good .few-events) next (set-lt-power (follows t e) (t .events))
-
-    pub awaited-awaits : (f : ℕ) → has (awaited t e) f ≡ true → Awaits t e f
-    unfolding awaited
-    awaited-awaits =
-        fully-within t (along t) (Awaits t e) (λ k b l p. further p (follows-at t k b l)) next
-        (λ x h. first (set-holds (follows t e) (t .events) x h .1))
 
     pub awaits-awaited : {f : ℕ} → Awaits t e f → has (awaited t e) f ≡ true
     unfolding awaited

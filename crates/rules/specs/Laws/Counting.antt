@@ -1,19 +1,17 @@
 -- Laws of the words of counting: how each is come by, what it gives, and the step that a loop takes. Assumes nothing.
-use mathlib.Core.Path.{_≡_, refl, _∙_, ap, ap₂, sym}
-use mathlib.Core.Bool.{Bool, true, false, not, _&&_, _||_, cond, true≢false}
+use mathlib.Core.Path.{_≡_, refl, _∙_, ap, sym}
+use mathlib.Core.Bool.{Bool, true, false, _||_, cond, true≢false}
 use mathlib.Core.List.{List, [], _∷_, _++_}
 use mathlib.Core.Logic.{_⊎_, ⊎-elim, inl, inr}
 use Prim.Native.Nat.{ℕ, zero, suc, _<_, _≤_, _+_, _-_}
-use native.Mathlib.Nat.{le-of-suc-le-suc, zero-add, suc-add, add-suc, add-zero}
-use native.Mathlib.Decide.{ℕ-discrete}
+use native.Mathlib.Nat.{le-of-suc-le-suc, zero-add, add-zero}
 use native.Mathlib.Numerals.{add-one}
 use native.Mathlib.Omega.{arith}
-use lib.Dec.{eqb, ltb}
-use lib.ListN.{getD, length, set, length-set, replicate, length-append, length-replicate}
-use lib.Seq.{ext-getD, getD-set-same, getD-set-other}
+use lib.Dec.{ltb}
+use lib.ListN.{getD, length, set, replicate}
 use borrow.Author.Tests.{ltb-true, ltb-false, lt-ltb, le-ltb}
 use Rattle.rules.specs.Counting.{every, some, lowest, howMany, repeated, placesFrom, places, belowFrom, eachBelow}
-use Rattle.rules.specs.Laws.Tests.{clash, denied, both, either, or-right, and-false, last-or-below, same-test}
+use Rattle.rules.specs.Laws.Tests.{clash, denied, both, either, or-right, last-or-below}
 
 -- every
 module _ (f : ℕ → Bool) where
@@ -23,18 +21,6 @@ module _ (f : ℕ → Bool) where
   every-at (suc n) x h b =
       let p = both (every n f) (f n) h in
       ⊎-elim (λ (q : x ≡ n). rw q (p .1)) (λ (l : x < n). every-at n x (p .0) l) (last-or-below b)
-
-  pub every-true : (n : ℕ) → ((x : ℕ) → x < n → f x ≡ true) → every n f ≡ true
-  unfolding every
-  every-true zero h = refl
-  every-true (suc n) h = rw (every-true n (λ x l. h x (omega arith)), h n (omega arith))
-
-  pub every-fails : (n x : ℕ) → x < n → f x ≡ false → every n f ≡ false
-  every-fails n x b h = denied (every n f) (λ e. clash (every-at n x e b) h)
-
-  pub every-more : (i : ℕ) → every i f ≡ true → f i ≡ true → every (i + 1) f ≡ true
-  unfolding every
-  every-more i p q = rw (add-one, p, q)
 
 -- some
 module _ (f : ℕ → Bool) where
@@ -104,7 +90,8 @@ module _ (f : ℕ → Bool) where
       at r false e (inl d) = absurd (omega (arith, ltb-false r n e, d .small))
       at r false e (inr d) = here (f n) refl (d .nowhere)
 
-      go : (r : ℕ) → Found f n r ⊎ Lacks f n r → Found f (suc n) (cond (ltb r n) r (cond (f n) n (suc n))) ⊎ Lacks f (suc n) (cond (ltb r n) r (cond (f n) n (suc n)))
+      go : (r : ℕ) → Found f n r ⊎ Lacks f n r → Found f (suc n) (cond (ltb r n) r (cond (f n) n (suc n)))
+          ⊎ Lacks f (suc n) (cond (ltb r n) r (cond (f n) n (suc n)))
       go r d = at r (ltb r n) refl d
 
   pub lowest-le : (n : ℕ) → lowest n f ≤ n
@@ -249,7 +236,8 @@ module _ {A : Type 0} (f : ℕ → A) where
   places-from-snoc : (at n : ℕ) → placesFrom at (suc n) f ≡ placesFrom at n f ++ (f (at + n) ∷ [])
   unfolding placesFrom
   places-from-snoc at zero = rw add-zero
-  places-from-snoc at (suc n) = ap {B = List A} (λ l. f at ∷ l) (places-from-snoc (suc at) n ∙ ap {B = List A} (λ k. placesFrom (suc at) n f ++ (f k ∷ [])) (omega arith))
+  places-from-snoc at (suc n) =
+      ap {B = List A} (λ l. f at ∷ l) (places-from-snoc (suc at) n ∙ ap {B = List A} (λ k. placesFrom (suc at) n f ++ (f k ∷ [])) (omega arith))
 
   -- one place more
   pub places-more : (n : ℕ) → places (n + 1) f ≡ places n f ++ (f n ∷ [])
@@ -307,47 +295,3 @@ module _ {A : Type 0} where
 
   pub each-below-kept : (n : ℕ) (f : ℕ → A → A) (l : List A) (i : ℕ) (d : A) → i < length l → n ≤ i → getD (eachBelow n f l) i d ≡ getD l i d
   each-below-kept n f l i d b h = each-below-at n f l i d b ∙ rw (le-ltb i n h)
-
-  pub each-below-none : (f : ℕ → A → A) (l : List A) → eachBelow 0 f l ≡ l
-  unfolding belowFrom
-  each-below-none f l = go 0 l
-    where
-      go : (at : ℕ) (l : List A) → belowFrom at 0 f l ≡ l
-      go at [] = refl
-      go at (a ∷ l) = rw (le-ltb at 0 (omega arith)) (ap {B = List A} (λ m. a ∷ m) (go (suc at) l))
-
-  -- one place more: what was there is what it was at the start
-  pub each-below-more : (f : ℕ → A → A) (l : List A) (i : ℕ) (d : A) → i < length l
-      → set (eachBelow i f l) i (f i (getD l i d)) ≡ eachBelow (i + 1) f l
-  each-below-more f l i d b =
-      ext-getD d (set (eachBelow i f l) i (f i (getD l i d))) (eachBelow (i + 1) f l)
-      (length-set (eachBelow i f l) i _ ∙ length-each-below i f l ∙ sym (length-each-below (i + 1) f l))
-      (λ k h. at k (omega (arith, length-set (eachBelow i f l) i (f i (getD l i d)), length-each-below i f l)) (ℕ-discrete k i))
-    where
-      at : (k : ℕ) → k < length l → Dec (k ≡ i) → getD (set (eachBelow i f l) i (f i (getD l i d))) k d ≡ getD (eachBelow (i + 1) f l) k d
-      at k h (yes q) =
-          ap {B = A} (λ j. getD (set (eachBelow i f l) i (f i (getD l i d))) j d) q
-          ∙ getD-set-same (eachBelow i f l) i (f i (getD l i d)) d (omega (arith, length-each-below i f l))
-          ∙ sym (each-below-changed (i + 1) f l i d b (omega arith))
-          ∙ ap {B = A} (λ j. getD (eachBelow (i + 1) f l) j d) (sym q)
-      at k h (no n) =
-          getD-set-other (eachBelow i f l) i k (f i (getD l i d)) d n
-          ∙ each-below-at i f l k d h
-          ∙ ap {B = A} (λ t. cond t (f k (getD l k d)) (getD l k d)) (same (ltb k i) refl)
-          ∙ sym (each-below-at (i + 1) f l k d h)
-        where
-          same : (t : Bool) → ltb k i ≡ t → ltb k i ≡ ltb k (i + 1)
-          same true e = e ∙ sym (lt-ltb k (i + 1) (omega (arith, ltb-true k i e)))
-          same false e = e ∙ sym (le-ltb k (i + 1) (omega (arith, ltb-false k i e)))
-
-  pub each-below-same : (n : ℕ) (f g : ℕ → A → A) (l : List A) → ((i : ℕ) (a : A) → i < n → f i a ≡ g i a) → eachBelow n f l ≡ eachBelow n g l
-  unfolding belowFrom
-  each-below-same n f g l h = go 0 l
-    where
-      one : (at : ℕ) (a : A) (t : Bool) → ltb at n ≡ t → cond t (f at a) a ≡ cond t (g at a) a
-      one at a true e = h at a (ltb-true at n e)
-      one at a false e = refl
-
-      go : (at : ℕ) (l : List A) → belowFrom at n f l ≡ belowFrom at n g l
-      go at [] = refl
-      go at (a ∷ l) = ap₂ _∷_ (one at a (ltb at n) refl) (go (suc at) l)

@@ -1,19 +1,20 @@
 -- Laws of event sets in a word: members, a set by its members, one event more or fewer, size and lowest against the counts of bits.
 -- Assumes nothing.
-use mathlib.Core.Path.{_≡_, refl, _∙_, ap, ap₂, sym, subst}
-use mathlib.Core.Bool.{Bool, true, false, not, _&&_, _||_, cond, true≢false}
+use mathlib.Core.Path.{_≡_, refl, _∙_, ap, sym, subst}
+use mathlib.Core.Bool.{Bool, true, false, _||_, cond}
 use mathlib.Core.Logic.{_⊎_, ⊎-elim, inl, inr}
 use Prim.Native.Nat.{ℕ, zero, suc, _<_, _≤_, _+_, _*_, _^_, _/_, _%_, _-_}
-use native.Mathlib.Nat.{mod-lt, add-mul-div-left, add-mul-mod-self-right, add-div-right, pow-suc, one-mul, zero-mul, add-mul, add-comm, zero-div, le-of-lt, mod-eq-of-lt}
+use native.Mathlib.Nat.{mod-lt, add-mul-div-left, add-mul-mod-self-right, add-div-right, pow-suc, one-mul, zero-mul, add-mul, add-comm, zero-div, le-of-lt}
+use native.Mathlib.Nat.{mod-eq-of-lt}
 use native.Mathlib.Omega.{arith}
 use native.Mathlib.Numerals.{add-one, one-add}
 use lib.Dec.{eqb, leb, ltb, lit<}
 use lib.Arith.{digits-lt}
 use lib.Pow.{pow-pos, pow-add, split, shr-shr, shr-lt, mod-pow-add}
 use borrow.Author.Tests.{eq-eqb, eqb-true, eqb-false, leb-true, leb-false}
-use Rattle.rules.specs.Counting.{lowest, howMany}
-use Rattle.rules.specs.EventSet.{has, setOf, sizeOf, lowestOf}
-use Rattle.rules.specs.Laws.Tests.{decide, clash, denied, last-or-below, same-test}
+use Rattle.rules.specs.EventSet.{has, setOf}
+use Rattle.rules.specs.Shapes.Sets.{withEvent}
+use Rattle.rules.specs.Laws.Tests.{decide, clash, denied, last-or-below}
 
 -- the digit behind `has`
 pub has-digit : (w n : ℕ) → has w n ≡ true → w / 2 ^ n % 2 ≡ 1
@@ -205,13 +206,6 @@ module _ (w n : ℕ) (inside : has w n ≡ true) where
   has-minus-other k ne =
       let back : w - 2 ^ n + 2 ^ n ≡ w = omega (arith, worth-le) in
       sym (has-plus-other (w - 2 ^ n) n minus-out k ne) ∙ ap (λ (x : ℕ). has x k) back
-
-  pub minus-le : w - 2 ^ n ≤ w
-  minus-le = omega arith
-
--- the set with an event, whether or not it was there
-unfoldable pub withEvent : ℕ → ℕ → ℕ
-withEvent w n = cond (has w n) w (w + 2 ^ n)
 
 pub has-with : (w n x : ℕ) → has (withEvent w n) x ≡ (has w x || eqb n x)
 unfolding withEvent

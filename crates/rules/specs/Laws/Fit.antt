@@ -8,8 +8,5 @@ use Rattle.rules.specs.Holds.{mostEvents}
 use Rattle.rules.specs.Judge.{eventsFit}
 use Rattle.rules.specs.Laws.Tests.{both}
 
-pub fit-some : (n : ℕ) → eventsFit n ≡ true → 1 ≤ n
-fit-some n h = leb-true 1 n (both (leb 1 n) (leb n mostEvents) h .0)
-
 pub fit-few : (n : ℕ) → eventsFit n ≡ true → n ≤ mostEvents
 fit-few n h = leb-true n mostEvents (both (leb 1 n) (leb n mostEvents) h .1)

@@ -1,44 +1,19 @@
 -- What a table and a marking that are judged 'done' satisfy. Assumes nothing.
-use mathlib.Core.Path.{_≡_, refl, _∙_, ap, sym}
-use mathlib.Core.Bool.{Bool, true, false, not, _&&_, cond}
-use Prim.Native.Nat.{ℕ, _<_, _≤_}
-use native.Mathlib.Omega.{arith}
+use mathlib.Core.Path.{_≡_}
+use mathlib.Core.Bool.{not, _&&_}
+use Prim.Native.Nat.{ℕ}
 use lib.Dec.{eqb, leb, ltb}
 use borrow.Author.Tests.{leb-true, ltb-true, eqb-true}
 use Rattle.rules.specs.declared.Relation.{Relation}
 use Rattle.rules.specs.declared.Table.{Table}
-use Rattle.rules.specs.declared.Record.{Record}
 use Rattle.rules.specs.declared.Marking.{Marking}
-use Rattle.rules.specs.Numbers.{_if_, _else_}
-use Rattle.rules.specs.Holds.{limit, mostEvents, mostRelations, isCondition, isResponse, relationOf, recordOf}
-use Rattle.rules.specs.Judge.{eventsFit, relationsFit, timeFits, relationNumber, tableNumber, recordFits, recordNumber, markingNumber, markingNumberFor, judged}
-use Rattle.rules.specs.Laws.Tests.{both, not-false, not-true}
+use Rattle.rules.specs.Numbers.{_if_}
+use Rattle.rules.specs.Holds.{mostEvents, mostRelations, relationOf, recordOf}
+use Rattle.rules.specs.Judge.{eventsFit, relationsFit, timeFits, relationNumber, tableNumber, recordFits, recordNumber, markingNumber, markingNumberFor}
+use Rattle.rules.specs.Judge.{judged}
+use Rattle.rules.specs.Shapes.Good.{GoodRelation, GoodTable, GoodMarking, Good}
+use Rattle.rules.specs.Laws.Tests.{both, not-false}
 use Rattle.rules.specs.Laws.Numbers.{if-done, both-done, first-each}
-
--- a relation that is judged 'done'
-pub record GoodRelation (events : ℕ) (k : Relation) : Type 0 where
-  pub left-exists : k .left < events
-  pub right-exists : k .right < events
-  pub kind-some : 1 ≤ k .kind
-  pub kind-small : k .kind ≤ 5
-  pub fits : timeFits k ≡ true
-
--- a table that is judged 'done'
-pub record GoodTable (t : Table) : Type 0 where
-  pub some-events : 1 ≤ t .events
-  pub few-events : t .events ≤ mostEvents
-  pub few-relations : t .count ≤ mostRelations
-  pub relations-good : (k : ℕ) → k < t .count → GoodRelation (t .events) (relationOf t k)
-
--- a marking for so many events that is judged 'done'
-pub record GoodMarking (events : ℕ) (m : Marking) : Type 0 where
-  pub same-events : m .events ≡ events
-  pub records-fit : (e : ℕ) → e < events → recordFits (recordOf m e) ≡ true
-
--- what both give
-pub record Good (t : Table) (m : Marking) : Type 0 where
-  pub table-good : GoodTable t
-  pub marking-good : GoodMarking (t .events) m
 
 good-relation : (events : ℕ) (k : Relation) → relationNumber events k ≡ 0 → GoodRelation events k
 unfolding relationNumber

@@ -14,8 +14,8 @@ use Rattle.rules.specs.Guard.{holdsBack, needed}
 use Rattle.rules.specs.Laws.Tests.{clash, denied, both, join, or-left}
 use Rattle.rules.specs.Laws.Counting.{some-not}
 use Rattle.rules.specs.Laws.EventSet.{has-zero, set-lt-power, set-has, set-holds, same-members}
-use Rattle.rules.specs.Laws.Judge.{GoodTable}
-use Rattle.rules.specs.Laws.Widened.{has-below, fully-within, fully-contains, fully-fits, fully-word, fully-closed}
+use Rattle.rules.specs.Shapes.Good.{GoodTable}
+use Rattle.rules.specs.Laws.Widened.{has-below, fully-within, fully-contains, fully-fits, fully-closed}
 use Rattle.rules.specs.Laws.Closure.{closure-busy, closure-on}
 
 -- a due event is busy: it is pending with a deadline
@@ -41,10 +41,6 @@ module _ (t : Table) (good : GoodTable t) (m : Marking) (same : m .events ≡ t 
   pub needed-fits : needed t m < 2 ^ t .events
   unfolding needed
   needed-fits = fully-fits t along (dueSet m) due-fits
-
-  pub needed-word : needed t m < 2 ^ 64
-  unfolding needed
-  needed-word = fully-word t along (good .few-events) (dueSet m) due-fits
 
   pub needed-exists : (x : ℕ) → has (needed t m) x ≡ true → x < t .events
   needed-exists x h = has-below (t .events) (needed t m) x needed-fits h

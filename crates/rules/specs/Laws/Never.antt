@@ -6,7 +6,7 @@ use mathlib.Core.Bool.{Bool, true, false, cond}
 use mathlib.Core.List.{List, [], _∷_, _++_}
 use Prim.Native.Nat.{ℕ, zero, suc, _<_, _/_}
 use native.Mathlib.Omega.{arith}
-use lib.Dec.{eqb, leb}
+use lib.Dec.{eqb}
 use lib.ListN.{length, getD, List·getD-append}
 use borrow.Author.Tests.{lt-leb}
 use Rattle.rules.specs.declared.Relation.{Relation}
@@ -29,46 +29,13 @@ use Rattle.rules.specs.Check.{verdict, check}
 use Rattle.rules.specs.Guard.{guardedTick}
 use Rattle.rules.specs.Remedy.{remedyNumber, remedy}
 use Rattle.rules.specs.Trace.{stepNumber, stepped, endOf, answersOf, traceNumber, run, runAnswers, stepsIn, runBytes, runBytesAnswers}
-use Rattle.rules.specs.Station.{station}
+use Rattle.rules.specs.Station.{station, heardNumber}
+use Rattle.rules.specs.Images.{imagesNumber, guardNumber, fieldsNumber}
+use Rattle.rules.specs.Given.{given, EveryCall, Never}
 use Rattle.rules.specs.Laws.Tests.{clash}
 use Rattle.rules.specs.Laws.Trace.{answers-length, steps-length}
-use Rattle.rules.specs.Laws.Station.{tablePart, markingPart, stepsPart, stationNumber, numberOf, station-is}
-
--- the numbers that a call may give: 0 for 'done', and 1 to 15
-abbrev pub given : ℕ → Bool
-given n = leb n 15
-
--- P holds of every number that a public call gives
-pub record EveryCall (P : ℕ → Type 0) : Type 0 where
-  -- the image reader
-  pub of-read-table : (image : List ℕ) → P (readTable image .number)
-  pub of-read-marking : (events : ℕ) (image : List ℕ) → P (readMarking events image .number)
-  pub of-write-marking : (m : Marking) (room : ℕ) → P (writeNumber m room)
-  pub of-fresh : (events : ℕ) → P (fresh events .number)
-  pub of-judge-table : (t : Table) → P (tableNumber t)
-  pub of-judge-marking : (events : ℕ) (m : Marking) → P (markingNumberFor events m)
-  -- the engine
-  pub of-enabled : (t : Table) (m : Marking) (e : ℕ) → P (enabledAnswer t m e .number)
-  pub of-due : (t : Table) (m : Marking) → P (dueAnswer t m .number)
-  pub of-request : (t : Table) (m : Marking) (e : ℕ) → P (request t m e .number)
-  pub of-report : (t : Table) (m : Marking) (e : ℕ) → P (report t m e .number)
-  pub of-plain-tick : (t : Table) (m : Marking) → P (plainTick t m .number)
-  pub of-margin : (t : Table) (m : Marking) (k : ℕ) → P (marginNumber (margin t m k))
-  pub of-hold-up : (t : Table) (m : Marking) (e : ℕ) → P (holdUpNumber (holdUp t m e))
-  pub of-closure : (t : Table) (m : Marking) → P (closureAnswer t m .number)
-  pub of-check : (t : Table) (m : Marking) → P (checkNumber (check t m))
-  pub of-guarded-tick : (t : Table) (m : Marking) → P (guardedTick t m .number)
-  pub of-remedies : (t : Table) (m : Marking) (preferred fallback : List ℕ) → P (remedy t m preferred fallback .number)
-  -- the runner: its number, and each answer byte of a trace that is granted
-  pub of-run : (t : Table) (m : Marking) (steps : List Step) (room : ℕ) → P (run t m steps room .number)
-  pub of-run-answers : (t : Table) (m : Marking) (steps : List Step) (buffer : List ℕ) → run t m steps (length buffer) .number ≡ 0
-      → (i : ℕ) → i < length steps → P (getD (runAnswers t m steps buffer) i 0)
-  pub of-run-bytes : (t : Table) (m : Marking) (bytes : List ℕ) (room : ℕ) → P (runBytes t m bytes room .number)
-  pub of-run-bytes-answers : (t : Table) (m : Marking) (bytes buffer : List ℕ) → runBytes t m bytes (length buffer) .number ≡ 0
-      → (i : ℕ) → i < length bytes / 2 → P (getD (runBytesAnswers t m bytes buffer) i 0)
-  -- the station: the one byte of a refusal, and each answer byte
-  pub of-station : (input : List ℕ) (byte : ℕ) → station input ≡ byte ∷ [] → P byte
-  pub of-station-answers : (input : List ℕ) (i : ℕ) → i < length (stepsPart input) / 2 → P (getD (station input) i 0)
+use Rattle.rules.specs.Station.{tablePart, markingPart, stepsPart}
+use Rattle.rules.specs.Laws.Station.{stationNumber, numberOf, station-is}
 
 -- a marking image is not one byte
 no-byte : (m : Marking) (at n byte : ℕ) → pieces (eventImage m) at n ≡ byte ∷ [] → ⊥
@@ -128,6 +95,18 @@ module _ (P : ℕ → Type 0) (each : (number : ℕ) → given number ≡ true �
   marking-image-given : (events : ℕ) (image : List ℕ) → P (markingImageNumber events image)
   unfolding markingImageNumber
   marking-image-given events image = search (if-given, else-given, first-given) depth 8
+
+  images-given : (table marking : List ℕ) → P (imagesNumber table marking)
+  unfolding imagesNumber readTable readMarking
+  images-given table marking = search (else-given, table-image-given, marking-image-given) depth 8
+
+  guard-given : (table marking : List ℕ) (room : ℕ) → P (guardNumber table marking room)
+  unfolding guardNumber
+  guard-given table marking room = search (if-given, else-given, images-given) depth 8
+
+  fields-given : (table marking : List ℕ) (event room : ℕ) → P (fieldsNumber table marking event room)
+  unfolding fieldsNumber
+  fields-given table marking event room = search (if-given, else-given, images-given) depth 8
 
   -- the calls' own numbers
   request-given : (t : Table) (m : Marking) (e : ℕ) → P (requestNumber t m e)
@@ -221,7 +200,7 @@ module _ (P : ℕ → Type 0) (each : (number : ℕ) → given number ≡ true �
         go false (suc i) b = each 0 refl
 
   pub every-call : EveryCall P
-  unfolding readTable readMarking writeNumber fresh enabledAnswer dueAnswer request report plainTick closureAnswer guardedTick remedy run runAnswers runBytes runBytesAnswers
+  unfolding readTable readMarking writeNumber fresh enabledAnswer dueAnswer request report plainTick closureAnswer guardedTick remedy run runAnswers runBytes runBytesAnswers heardNumber
   every-call = record {
     of-read-table = table-image-given;
     of-read-marking = marking-image-given;
@@ -244,13 +223,13 @@ module _ (P : ℕ → Type 0) (each : (number : ℕ) → given number ≡ true �
     of-run-answers = λ t m steps buffer granted i b. rw granted (written-given t m steps _ i b);
     of-run-bytes = λ t m bytes room. search (if-given, else-given, judged-given, trace-given);
     of-run-bytes-answers = λ t m bytes buffer granted i b. rw granted (written-given t m (stepsIn bytes) _ i (rw (steps-length bytes) b));
+    of-heard = λ kept beyond room. search if-given;
     of-station = station-given;
     of-station-answers = station-answers-given;
+    of-images = images-given;
+    of-guard = guard-given;
+    of-fields = fields-given;
   }
-
--- n is given by no call
-abbrev pub Never : ℕ → Type 0
-Never n = EveryCall (λ number. number ≡ n → ⊥)
 
 pub never : (n : ℕ) → given n ≡ false → Never n
 never n none = every-call (λ number. number ≡ n → ⊥) (λ number g e. clash g (rw e none))

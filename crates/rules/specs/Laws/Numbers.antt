@@ -1,8 +1,8 @@
 -- The first number given for refusal: by `if`, by `else`, and along a count. Assumes nothing.
 use mathlib.Core.Path.{_≡_, refl, _∙_, ap, sym}
-use mathlib.Core.Bool.{Bool, true, false, not}
-use mathlib.Core.Logic.{_⊎_, ⊎-elim, inl, inr}
-use Prim.Native.Nat.{ℕ, zero, suc, _<_, _≤_, _+_}
+use mathlib.Core.Bool.{Bool, true, false}
+use mathlib.Core.Logic.{_⊎_, ⊎-elim}
+use Prim.Native.Nat.{ℕ, zero, suc, _<_, _+_}
 use native.Mathlib.Omega.{arith}
 use native.Mathlib.Numerals.{add-one}
 use Rattle.rules.specs.Numbers.{_if_, _else_, firstOf}
@@ -11,9 +11,6 @@ use Rattle.rules.specs.Laws.Tests.{last-or-below}
 -- a rule that is kept gives no number, one that is broken its own
 pub if-kept : (n : ℕ) {b : Bool} → b ≡ false → n if b ≡ 0
 if-kept n p = rw p
-
-pub if-broken : (n : ℕ) {b : Bool} → b ≡ true → n if b ≡ n
-if-broken n p = rw p
 
 pub if-done : (n : ℕ) (b : Bool) → (suc n) if b ≡ 0 → b ≡ false
 if-done n true h = absurd (omega (arith, h))

@@ -1,9 +1,9 @@
 -- The order of taking. Where no needed event waits for itself along followed relations, it takes each needed event once and nothing else,
 -- and each one's needed inhibitors before it: were no untaken event ready, a walk from one untaken event to the next would see new events
 -- for ever, and there are only so many. Assumes nothing.
-use mathlib.Core.Path.{_≡_, refl, _∙_, sym, subst}
+use mathlib.Core.Path.{_≡_, refl, _∙_, sym}
 use mathlib.Core.Bool.{Bool, true, false, not, _&&_, _||_, cond}
-use mathlib.Core.List.{List, [], _∷_, _++_}
+use mathlib.Core.List.{List, [], _∷_}
 use mathlib.Core.Logic.{_⊎_, ⊎-elim, inl, inr}
 use Prim.Native.Nat.{ℕ, zero, suc, _<_, _≤_, _+_, _-_, _^_}
 use native.Mathlib.Omega.{arith}
@@ -12,7 +12,7 @@ use lib.ListN.{length}
 use borrow.Author.Tests.{eqb-true, eqb-false, eq-eqb, lt-ltb, le-ltb}
 use Rattle.rules.specs.declared.Table.{Table}
 use Rattle.rules.specs.declared.Marking.{Marking}
-use Rattle.rules.specs.Counting.{some, lowest, howMany}
+use Rattle.rules.specs.Counting.{some, lowest, howMany, times}
 use Rattle.rules.specs.EventSet.{has}
 use Rattle.rules.specs.Closure.{follows}
 use Rattle.rules.specs.Check.{awaited}
@@ -20,13 +20,8 @@ use Rattle.rules.specs.Guard.{needed, ready, orderOf, order}
 use Rattle.rules.specs.Laws.Tests.{decide, clash, denied, not-true, both, either, join, or-right}
 use Rattle.rules.specs.Laws.Counting.{some-where, some-at, Found, Lacks, lowest-cases, many-le, many-lt}
 use Rattle.rules.specs.Laws.EventSet.{has-zero, has-minus-same, has-minus-other}
-use Rattle.rules.specs.Laws.Judge.{GoodTable}
+use Rattle.rules.specs.Shapes.Good.{GoodTable}
 use Rattle.rules.specs.Laws.Closure.{Awaits, first, further, awaits-awaited}
-
--- how often x is in a list
-unfoldable pub times : ℕ → List ℕ → ℕ
-times x [] = 0
-times x (e ∷ rest) = cond (eqb x e) (suc (times x rest)) (times x rest)
 
 -- what an order is, for the events still untaken: it ends when none is left, and the next has no untaken inhibitor that is followed
 pub data Takes (t : Table) : ℕ → List ℕ → Type 0 where
@@ -169,17 +164,6 @@ module _ (t : Table) where
       go zero e = omega arith
       go (suc n) e = omega (arith, e, takes-once order x (takes-only order x (omega (arith, e)) .0), at-most (has untaken x))
 
-  -- an inhibitor of an event stands before it
-  pub takes-before : (a b : List ℕ) (untaken e f : ℕ) → Takes t untaken (a ++ (e ∷ b)) → f < t .events → follows t e f ≡ true → has untaken f ≡ true
-      → 1 ≤ times f a
-  unfolding times
-  takes-before [] b untaken e f (next c p q r) small i u = absurd (clash u (q f small i))
-  takes-before (d ∷ a) b untaken e f (next c p q r) small i u = go (decide (eqb f d)) (takes-before a b (untaken - 2 ^ d) e f r small i)
-    where
-      go : (eqb f d ≡ true) ⊎ (eqb f d ≡ false) → (has (untaken - 2 ^ d) f ≡ true → 1 ≤ times f a) → 1 ≤ cond (eqb f d) (suc (times f a)) (times f a)
-      go (inl y) ih = rw y (omega arith)
-      go (inr y) ih = rw y (ih (has-minus-other untaken d p f (eqb-false f d y) ∙ u))
-
   -- nothing to take, nothing taken
   pub takes-none : {l : List ℕ} → Takes t 0 l → l ≡ []
   takes-none (none-left d) = refl
@@ -191,14 +175,6 @@ module _ (t : Table) (good : GoodTable t) (m : Marking) (free : (x : ℕ) → ha
   order-is =
       order-takes t (t .events) (needed t m) (many-le (has (needed t m)) (t .events))
       (λ x b n w. clash (awaits-awaited t good x w) (free x n))
-
-  -- each needed event exactly once, and nothing else
-  pub order-once : (x : ℕ) → x < t .events → times x (order t m) ≡ cond (has (needed t m) x) 1 0
-  order-once = takes-once t order-is
-
-  -- the needed inhibitors of an event before it
-  pub order-before : (a b : List ℕ) (e f : ℕ) → order t m ≡ a ++ (e ∷ b) → f < t .events → follows t e f ≡ true → has (needed t m) f ≡ true → 1 ≤ times f a
-  order-before a b e f q = takes-before t a b (needed t m) e f (subst (Takes t (needed t m)) q order-is)
 
 -- no more events are taken than asked for
 pub order-length : (t : Table) (n untaken : ℕ) → length (orderOf t n untaken) ≤ n

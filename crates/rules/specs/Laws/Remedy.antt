@@ -16,19 +16,14 @@ use Rattle.rules.specs.declared.Marking.{Marking}
 use Rattle.rules.specs.declared.RemedyAnswer.{RemedyAnswer}
 use Rattle.rules.specs.Counting.{lowest}
 use Rattle.rules.specs.Judge.{judged}
-use Rattle.rules.specs.Holds.{isCausable}
-use Rattle.rules.specs.Enabled.{isEnabled}
 use Rattle.rules.specs.Effect.{effect}
 use Rattle.rules.specs.Time.{anyDue}
 use Rattle.rules.specs.Remedy.{inTurn, effects, discharges, shortest, longestList, remedyNumber, remedy}
+use Rattle.rules.specs.Shapes.Tried.{mayCause}
 use Rattle.rules.specs.Laws.Counting.{lowest-is, lowest-none, lowest-same, lowest-cases, lowest-le}
 use Rattle.rules.specs.Laws.Tests.{or-right}
 use Rattle.rules.specs.Laws.Numbers.{else-refused}
 use Rattle.rules.specs.Demand3.Facts.{effect-judged}
-
--- an event of a list may be caused now: it exists, is causable and is enabled
-unfoldable pub mayCause : Table → Marking → ℕ → Bool
-mayCause t m e = ltb e (t .events) && isCausable t e && isEnabled t m e
 
 -- the lowest number of n + 1 is 0, or one more than the lowest of the others
 lowest-first : (f : ℕ → Bool) (n : ℕ) → f 0 ≡ true → lowest (suc n) f ≡ 0
@@ -77,14 +72,14 @@ module _ (t : Table) (m : Marking) where
 
 -- The pass itself: what is known once i events of the list were caused, one after the other, in a marking of its own.
 module _ (t : Table) (m : Marking) (list : List ℕ) where
-  pub record Passed (i : ℕ) (trial : Marking) : Type 0 where
+  pub record TriedSoFar (i : ℕ) (trial : Marking) : Type 0 where
     pub still-judged : judged t trial ≡ 0
     pub rest-searched : shortest t m list ≡ i + shortest t trial (drop i list)
 
-  pub passed-none : judged t m ≡ 0 → Passed 0 m
+  pub passed-none : judged t m ≡ 0 → TriedSoFar 0 m
   passed-none h = record { still-judged = h; rest-searched = omega arith }
 
-  module _ (i : ℕ) (trial : Marking) (p : Passed i trial) where
+  module _ (i : ℕ) (trial : Marking) (p : TriedSoFar i trial) where
     -- nothing is due: this start is it
     pub found-here : anyDue trial ≡ false → shortest t m list ≡ i
     found-here h = p .rest-searched ∙ rw (shortest-empty t trial (drop i list) h) (omega arith)
@@ -100,7 +95,7 @@ module _ (t : Table) (m : Marking) (list : List ℕ) where
       parted : drop i list ≡ next ∷ drop (suc i) list
       parted = drop-cons list i 0 more
 
-      pub passed-more : mayCause t trial next ≡ true → Passed (i + 1) (effect t trial next)
+      pub passed-more : mayCause t trial next ≡ true → TriedSoFar (i + 1) (effect t trial next)
       passed-more h = record {
         still-judged = effect-judged t trial next (p .still-judged);
         rest-searched = p .rest-searched ∙ rw (parted, shortest-further t trial next (drop (suc i) list) due h, add-one i) (omega arith);

@@ -10,13 +10,14 @@ use lib.Dec.{eqb}
 use lib.ListN.{length}
 use Rattle.rules.specs.declared.Table.{Table}
 use Rattle.rules.specs.declared.Marking.{Marking}
+use Rattle.rules.specs.Counting.{times}
 use Rattle.rules.specs.Holds.{recordOf}
 use Rattle.rules.specs.Effect.{effect}
 use Rattle.rules.specs.Time.{time}
 use Rattle.rules.specs.Guard.{needed, order, goesAhead, taken, takenAll, executedOf, caused, guarded}
 use Rattle.rules.specs.Remedy.{effects}
 use Rattle.rules.specs.Laws.Tests.{decide}
-use Rattle.rules.specs.Laws.Order.{times, order-length}
+use Rattle.rules.specs.Laws.Order.{order-length}
 
 -- one event is taken
 module _ (t : Table) (m : Marking) (e : ℕ) where
@@ -67,7 +68,8 @@ module _ (t : Table) where
   executed-length m [] = omega arith
   executed-length m (e ∷ l) = go (goesAhead t m e) (executed-length (taken t m e) l)
     where
-      go : (i : Bool) → length (executedOf t (taken t m e) l) ≤ length l → length (cond i (e ∷ executedOf t (taken t m e) l) (executedOf t (taken t m e) l)) ≤ suc (length l)
+      go : (i : Bool) → length (executedOf t (taken t m e) l) ≤ length l
+          → length (cond i (e ∷ executedOf t (taken t m e) l) (executedOf t (taken t m e) l)) ≤ suc (length l)
       go true h = omega arith
       go false h = omega arith
 

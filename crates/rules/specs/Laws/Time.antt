@@ -2,35 +2,25 @@
 -- says of its test. Assumes nothing.
 use mathlib.Core.Path.{_≡_, refl, _∙_, ap, sym}
 use mathlib.Core.Bool.{Bool, true, false, not}
-use Prim.Native.Nat.{ℕ, suc, _<_, _+_, _*_, _^_, _%_}
-use native.Mathlib.Nat.{one-mul, pow-suc}
+use Prim.Native.Nat.{ℕ, _<_, _*_, _^_, _%_}
+use native.Mathlib.Nat.{one-mul}
 use native.Mathlib.Omega.{arith}
 use borrow.Author.Tests.{eq-eqb, ne-eqb}
 use lib.Dec.{eqb, lit<}
-use lib.Pow.{shl-exact, pow-mono, pow-pos}
+use lib.Pow.{shl-exact, pow-pos}
 use Rattle.rules.specs.Counting.{some}
 use Rattle.rules.specs.EventSet.{has, setOf}
 use Rattle.rules.specs.declared.Marking.{Marking}
 use Rattle.rules.specs.Time.{dueSet, anyDue}
 use Rattle.rules.specs.Laws.Tests.{clash, not-true, not-false}
 use Rattle.rules.specs.Laws.Counting.{some-where, some-not}
-use Rattle.rules.specs.Laws.EventSet.{has-zero, set-has, set-lt-power, set-more, same-members}
+use Rattle.rules.specs.Laws.EventSet.{has-zero, set-has, set-lt-power, same-members}
 
 -- the word of one event, as the machine shifts it
 pub one-shifted : (n : ℕ) → n < 64 → 1 * 2 ^ n % 2 ^ 64 ≡ 2 ^ n
 one-shifted n b = shl-exact 1 n 64 (lit< tt) (omega arith) ∙ one-mul (2 ^ n)
 
 module _ (f : ℕ → Bool) (n : ℕ) where
-  -- the next event has room in the word
-  pub set-room : n < 64 → setOf n f + 1 * 2 ^ n % 2 ^ 64 < 2 ^ 64
-  set-room b = rw (one-shifted n b) (omega (arith, set-lt-power f n, pow-suc 2 n, pow-mono {i = suc n} {j = 64} b))
-
-  pub set-takes : n < 64 → f n ≡ true → setOf n f + 1 * 2 ^ n % 2 ^ 64 ≡ setOf (n + 1) f
-  set-takes b h = rw (one-shifted n b, set-more, h)
-
-  pub set-skips : f n ≡ false → setOf n f ≡ setOf (n + 1) f
-  set-skips h = rw (set-more, h) (omega arith)
-
   -- empty exactly where the test holds nowhere
   pub set-empty : eqb (setOf n f) 0 ≡ not (some n f)
   set-empty = go (some n f) refl

@@ -26,7 +26,7 @@ use Rattle.rules.specs.Trace.{stepNumber, stepDone, stepped, endOf, answ
 use Rattle.rules.specs.Laws.Tests.{join, or-left, or-right, neither}
 use Rattle.rules.specs.Laws.Numbers.{if-done, both-done}
 use Rattle.rules.specs.Laws.Counting.{length-places, places-at}
-use Rattle.rules.specs.Laws.Ask.{askNumber}
+use Rattle.rules.specs.Shapes.Asked.{askNumber}
 use Rattle.rules.specs.Demand3.Facts.{effect-judged, time-judged}
 
 -- running a trace and then another is running both
@@ -107,7 +107,8 @@ turned t m kind event =
 
 -- by its kind
 module _ (t : Table) (m : Marking) (event : ℕ) where
-  pub turned-ask : (controllable : Bool) → record { number = askNumber controllable t m event; marking = done (askNumber controllable t m event) (effect t m event) m }
+  pub turned-ask : (controllable : Bool)
+      → record { number = askNumber controllable t m event; marking = done (askNumber controllable t m event) (effect t m event) m }
       ≡ turned t m (cond controllable requestKind reportKind) event
   unfolding turned stepped stepNumber stepDone askNumber requestNumber reportNumber
   turned-ask true = refl
@@ -181,7 +182,8 @@ module _ (t : Table) (m : Marking) (steps : List Step) (buffer : List ℕ) where
         ∙ set-at before (getD buffer i 0) (drop (suc i) buffer) (stepNumber t now s) i sized
         ∙ sym (append-snoc before (stepNumber t now s) (drop (suc i) buffer))
         ∙ ap {B = List ℕ} (λ l. l ++ drop (suc i) buffer)
-        (sym (ap (answersOf t m) one ∙ answers-append t m (take i steps) (s ∷ []) ∙ ap (λ (k : Marking). before ++ (stepNumber t k s ∷ [])) (sym (f .marking-is))))
+        (sym (ap (answersOf t m) one ∙ answers-append t m (take i steps) (s ∷ [])
+        ∙ ap (λ (k : Marking). before ++ (stepNumber t k s ∷ [])) (sym (f .marking-is))))
         ∙ ap {B = List ℕ} (λ k. answersOf t m (take (i + 1) steps) ++ drop k buffer) (sym (add-one i))
 
     -- one more, where the step answered r

@@ -8,8 +8,9 @@ use lib.Dec.{lit<}
 use lib.Pow.{pow-lt, split}
 use lib.Bits.{bitOr, or-lt}
 use Rattle.rules.specs.EventSet.{has}
-use Rattle.rules.specs.Laws.EventSet.{has-digit, withEvent, has-with, with-fits, has-zero, same-members}
-use Rattle.rules.specs.Laws.Words.{has-or, has-one}
+use Rattle.rules.specs.Shapes.Sets.{withEvent}
+use Rattle.rules.specs.Laws.EventSet.{has-digit, has-with, with-fits, has-zero, same-members}
+use Rattle.rules.specs.Laws.Bitwise.{has-or, has-one}
 
 -- one event or-ed in
 pub or-one : (w n : ℕ) → n < 64 → w < 2 ^ 64 → bitOr w (2 ^ n) ≡ withEvent w n

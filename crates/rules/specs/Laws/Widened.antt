@@ -4,7 +4,7 @@ use mathlib.Core.Path.{_≡_, refl, _∙_, sym, subst}
 use mathlib.Core.Bool.{Bool, true, false, not, _&&_, _||_}
 use mathlib.Core.Logic.{_⊎_, ⊎-elim, inl, inr}
 use Prim.Native.Nat.{ℕ, _<_, _≤_, _^_}
-use native.Mathlib.Nat.{lt-of-lt-of-le, le-refl}
+use native.Mathlib.Nat.{lt-of-lt-of-le}
 use lib.Dec.{eqb, ltb}
 use lib.Pow.{pow-mono}
 use borrow.Author.Tests.{eqb-true, eq-eqb, ltb-true, ltb-false}
@@ -13,7 +13,7 @@ use Rattle.rules.specs.Counting.{some, howMany}
 use Rattle.rules.specs.EventSet.{has}
 use Rattle.rules.specs.Holds.{relationOf}
 use Rattle.rules.specs.Closure.{widened, widenedFully}
-use Rattle.rules.specs.Laws.Tests.{decide, clash, denied, not-true, both, either, or-right, join, same-test}
+use Rattle.rules.specs.Laws.Tests.{decide, clash, denied, not-true, both, either, or-right, join}
 use Rattle.rules.specs.Laws.Counting.{some-where, some-at, some-not, many-le, many-lt, repeated-still, repeated-keeps}
 use Rattle.rules.specs.Laws.EventSet.{has-small, set-lt-power, set-has, same-members}
 
@@ -55,7 +55,8 @@ module _ (t : Table) (along : ℕ → Bool) where
   module _ (P : ℕ → Type 0) (on : (k : ℕ) → k < t .count → along k ≡ true → P (relationOf t k .left) → P (relationOf t k .right)) where
     pub widened-within : (set : ℕ) → ((x : ℕ) → has set x ≡ true → P x) → (x : ℕ) → has (widened t along set) x ≡ true → P x
     widened-within set start x h =
-        ⊎-elim (λ p. start x p) brought (either (has set x) (some (t .count) (brings set x)) (sym (widened-has set x (has-below (t .events) _ x (widened-fits set) h)) ∙ h))
+        ⊎-elim (λ p. start x p) brought
+        (either (has set x) (some (t .count) (brings set x)) (sym (widened-has set x (has-below (t .events) _ x (widened-fits set) h)) ∙ h))
       where
         brought : some (t .count) (brings set x) ≡ true → P x
         brought p =
@@ -121,24 +122,3 @@ module _ (t : Table) (along : ℕ → Bool) where
   pub fully-closed : (set : ℕ) → set < 2 ^ t .events → (k : ℕ) → k < t .count → relationOf t k .right < t .events → along k ≡ true
       → has (widenedFully t along set) (relationOf t k .left) ≡ true → has (widenedFully t along set) (relationOf t k .right) ≡ true
   fully-closed set h k b r l p = rw (fully-stable set h) at (widened-on (widenedFully t along set) k b r l p)
-
-  -- a set that contains the start, is closed and has nothing else is this set, however it was worked out
-  module _ (set : ℕ) (fits : set < 2 ^ t .events) (other : ℕ)
-      (starts : (x : ℕ) → has set x ≡ true → has other x ≡ true)
-      (on : (k : ℕ) → k < t .count → along k ≡ true → has other (relationOf t k .left) ≡ true → has other (relationOf t k .right) ≡ true)
-      (within : (x : ℕ) → has other x ≡ true → has (widenedFully t along set) x ≡ true)
-    where
-      -- in a word of n bits that has room for the events
-      pub fully-only : (n : ℕ) → t .events ≤ n → other < 2 ^ n → other ≡ widenedFully t along set
-      fully-only n few small =
-          same-members n other (widenedFully t along set) small
-          (lt-of-lt-of-le (fully-fits set fits) (pow-mono {i = t .events} {j = n} few))
-          (λ x b. same-test (has other x) (has (widenedFully t along set) x) (within x)
-          (fully-within (λ y. has other y ≡ true) on set starts x))
-
-  pub fully-is : (set : ℕ) → set < 2 ^ t .events → (other : ℕ) → other < 2 ^ t .events
-      → ((x : ℕ) → has set x ≡ true → has other x ≡ true)
-      → ((k : ℕ) → k < t .count → along k ≡ true → has other (relationOf t k .left) ≡ true → has other (relationOf t k .right) ≡ true)
-      → ((x : ℕ) → has other x ≡ true → has (widenedFully t along set) x ≡ true)
-      → other ≡ widenedFully t along set
-  fully-is set fits other small starts on within = fully-only set fits other starts on within (t .events) (le-refl (t .events)) small

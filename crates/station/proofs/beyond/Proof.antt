@@ -1,6 +1,6 @@
 -- The count falls short of its end with each turn that reads something. Assumes nothing.
 use Prim.Native.Nat.{_-_}
-use native.Mathlib.Omega.{arith}
+use borrow.Author.Needs.{needs}
 use Rattle.station.proofs.beyond.Statement.{statement}
 use Rattle.station.proofs.beyond.Tie as tie
 
@@ -11,31 +11,31 @@ abbrev μ-loop : tie.MeasureT-loop
 μ-loop count₀ count = 4611686018427387904 - count
 
 loop-holds : tie.Need-loop-holds Inv-loop μ-loop
-loop-holds c = omega arith
+loop-holds c = search needs
 
 buffer-requires : tie.Need-buffer-requires Inv-loop μ-loop
-buffer-requires c κs = omega arith
+buffer-requires c κs = search needs
 
-slice-aggregate-read-full : tie.Need-slice-aggregate-read-full Inv-loop μ-loop
-slice-aggregate-read-full c = omega arith
+slice-aggregate-read-on : tie.Need-slice-aggregate-read-on Inv-loop μ-loop
+slice-aggregate-read-on c = search needs
 
-read-full-requires : tie.Need-read-full-requires Inv-loop μ-loop
-read-full-requires c κs = omega arith
+read-on-requires : tie.Need-read-on-requires Inv-loop μ-loop
+read-on-requires c κs = search needs
 
 returns : tie.Need-returns Inv-loop μ-loop
-returns c = omega arith
+returns c = search needs
 
 add-count : tie.Need-add-count Inv-loop μ-loop
-add-count c = omega arith
+add-count c = search needs
 
 loop-less : tie.Need-loop-less Inv-loop μ-loop
-loop-less c = omega arith
+loop-less c = search needs
 
 loop-again : tie.Need-loop-again Inv-loop μ-loop
-loop-again c = omega arith
+loop-again c = search needs
 
 returns-2 : tie.Need-returns-2 Inv-loop μ-loop
-returns-2 c = omega arith
+returns-2 c = search needs
 
 pub beyond-spec : {M : Type 1} → statement M
 beyond-spec =
@@ -45,8 +45,8 @@ beyond-spec =
     μ-loop
     loop-holds
     buffer-requires
-    slice-aggregate-read-full
-    read-full-requires
+    slice-aggregate-read-on
+    read-on-requires
     returns
     add-count
     loop-less

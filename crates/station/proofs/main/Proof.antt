@@ -1,45 +1,24 @@
--- The engine's promise says how many bytes were told, and that they are there. Assumes nothing.
-use mathlib.Core.Path.{ap, sym}
-use mathlib.Core.List.{List}
-use Prim.Native.Nat.{ℕ, _≤_}
+-- What was read lies within the input, what is answered within the output, and the engine's call is asked as it may be. Assumes nothing.
+use mathlib.Core.Path.{sym, subst}
+use mathlib.Core.Logic.{⊎-elim, inl, inr}
+use Prim.Native.Nat.{_≤_}
 use native.Mathlib.Omega.{arith}
-use lib.ListN.{length, drop, length-append}
 use lib.Seq.{length-take-le}
-use Rattle.engine.specs.Heard.{Told}
 use borrow.Author.Needs.{needs}
 use Rattle.station.proofs.main.Statement.{statement}
 use Rattle.station.proofs.main.Tie as tie
 
--- what is told is there
-within : {bytes before after : List ℕ} {count : ℕ} → Told bytes before count after → count ≤ length after
-within {bytes} {before} h = omega (arith, h .counted, ap length (h .put), length-append bytes (drop (length bytes) before))
+slice-aggregate-fill : tie.Need-slice-aggregate-fill
+slice-aggregate-fill c = search needs
 
-slice-aggregate-read-full : tie.Need-slice-aggregate-read-full
-slice-aggregate-read-full c = search needs
-
-read-full-requires : tie.Need-read-full-requires
-read-full-requires c κs = search needs
+fill-requires : tie.Need-fill-requires
+fill-requires c κs = search needs
 
 rest-requires : tie.Need-rest-requires
 rest-requires c κs = search needs
 
-array-share-prefix-input : tie.Need-array-share-prefix-input
-array-share-prefix-input c = search needs
-
-slice-aggregate-station : tie.Need-slice-aggregate-station
-slice-aggregate-station c = search needs
-
-slice-aggregate-station-2 : tie.Need-slice-aggregate-station-2
-slice-aggregate-station-2 c = search needs
-
-station-requires : tie.Need-station-requires
-station-requires c κs = search needs
-
-array-share-prefix-output : tie.Need-array-share-prefix-output
-array-share-prefix-output c = within (c .before .station .ensures)
-
 slice-aggregate-write-all : tie.Need-slice-aggregate-write-all
-slice-aggregate-write-all c = sym (length-take-le _ _ (within (c .before .before .station .ensures)))
+slice-aggregate-write-all c = search needs
 
 write-all-requires : tie.Need-write-all-requires
 write-all-requires c κs = search needs
@@ -47,18 +26,59 @@ write-all-requires c κs = search needs
 returns : tie.Need-returns
 returns c = search needs
 
+array-share-prefix-input : tie.Need-array-share-prefix-input
+array-share-prefix-input c = search needs
+
+slice-aggregate-answered : tie.Need-slice-aggregate-answered
+slice-aggregate-answered c = sym (length-take-le _ _ (c .before .before .before .before .fill .ensures))
+
+slice-aggregate-answered-2 : tie.Need-slice-aggregate-answered-2
+slice-aggregate-answered-2 c = search needs
+
+answered-requires : tie.Need-answered-requires
+answered-requires c κs =
+    let read = c .before .before .before .before .before .fill .ensures in
+    (omega arith, ⊎-elim inl (λ l. inr (subst (10308 ≤_) (sym (length-take-le _ _ read)) l)) (c .before .before .before .rest .ensures))
+
+array-share-prefix-output : tie.Need-array-share-prefix-output
+array-share-prefix-output c = search needs
+
+slice-aggregate-write-all-2 : tie.Need-slice-aggregate-write-all-2
+slice-aggregate-write-all-2 c = sym (length-take-le _ _ (c .before .before .answered .ensures .1))
+
+write-all-requires-2 : tie.Need-write-all-requires-2
+write-all-requires-2 c κs = search needs
+
+slice-aggregate-write-all-3 : tie.Need-slice-aggregate-write-all-3
+slice-aggregate-write-all-3 c = search needs
+
+write-all-requires-3 : tie.Need-write-all-requires-3
+write-all-requires-3 c κs = search needs
+
+returns-2 : tie.Need-returns-2
+returns-2 c = search needs
+
+returns-3 : tie.Need-returns-3
+returns-3 c = search needs
+
 pub main-spec : {M : Type 1} → statement M
 main-spec =
     tie.close
     (tie.spec
-    slice-aggregate-read-full
-    read-full-requires
+    slice-aggregate-fill
+    fill-requires
     rest-requires
-    array-share-prefix-input
-    slice-aggregate-station
-    slice-aggregate-station-2
-    station-requires
-    array-share-prefix-output
     slice-aggregate-write-all
     write-all-requires
-    returns)
+    returns
+    array-share-prefix-input
+    slice-aggregate-answered
+    slice-aggregate-answered-2
+    answered-requires
+    array-share-prefix-output
+    slice-aggregate-write-all-2
+    write-all-requires-2
+    slice-aggregate-write-all-3
+    write-all-requires-3
+    returns-2
+    returns-3)

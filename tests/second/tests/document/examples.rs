@@ -1,4 +1,4 @@
-//! The shop examples. Those marked (P) in document 01 start with `p_`.
+//! The shop examples. Those marked (P) in the rules' paper start with `p_`.
 
 use crate::shop::*;
 use second::*;
@@ -22,9 +22,10 @@ fn p_is_accepted_with_closure_1_2_4() {
         assert_eq!(check(p, &p_start()), ACCEPTED);
         assert_eq!(
             closure(p, &p_start()),
-            SetAnswer {
+            ClosureAnswer {
                 number: 0,
                 set: set(&[1, 2, 4]),
+                size: 3,
             }
         );
         assert_eq!(size(closure(p, &p_start()).set), 3);

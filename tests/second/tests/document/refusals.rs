@@ -28,7 +28,14 @@ fn every_call_refuses(table: &Table, now: &Marking, number: u8) {
     assert_eq!(plain_tick(table, now), handed_back);
     assert_eq!(margin(table, now, 0), MarginAnswer::Refused(number));
     assert_eq!(hold_up(table, now, 0), HoldUpAnswer::Refused(number));
-    assert_eq!(closure(table, now), SetAnswer { number, set: 0 });
+    assert_eq!(
+        closure(table, now),
+        ClosureAnswer {
+            number,
+            set: 0,
+            size: 0,
+        }
+    );
     assert_eq!(
         check(table, now),
         CheckAnswer {
@@ -495,6 +502,7 @@ fn unused_places_are_not_looked_at_and_are_kept() {
     assert_eq!(judge_table(&table), 0);
     assert_eq!(judge_marking(2, &now), 0);
     assert_eq!(closure(&table, &now).set, set(&[1]));
+    assert_eq!(closure(&table, &now).size, 1);
     assert_eq!(due(&table, &now).set, 0);
     let answers = [
         request(&table, &now, 0).marking,

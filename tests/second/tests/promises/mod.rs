@@ -1,4 +1,4 @@
-//! What document 01 promises of every answer, asked through the public calls
+//! What the rules' paper promises of every answer, asked through the public calls
 //! only. Each promise says what is broken, so that a test can also show that
 //! it breaks.
 
@@ -440,9 +440,12 @@ fn hold_up_promise(pair: &Pair, event: usize, answer: &HoldUpAnswer) -> Promise 
 
 /// The least set that holds the busy events and is closed under inhibitors,
 /// found by passing over all relations until nothing is added.
-fn closure_promise(pair: &Pair, answer: &SetAnswer) -> Promise {
+fn closure_promise(pair: &Pair, answer: &ClosureAnswer) -> Promise {
     if answer.number != 0 {
-        return holds(answer.set == 0, "a refusal gives a set");
+        return holds(
+            answer.set == 0 && answer.size == 0,
+            "a refusal gives a set or a size",
+        );
     }
     let relations = &pair.table.relations[..pair.table.count];
     let mut expected: BTreeSet<u8> = (0..pair.marking.events)
@@ -468,6 +471,10 @@ fn closure_promise(pair: &Pair, answer: &SetAnswer) -> Promise {
     holds(
         (0..64).all(|event| member(answer.set, event) == expected.contains(&(event as u8))),
         "the closure is wrong",
+    )?;
+    holds(
+        answer.size as usize == expected.len(),
+        "the size of the closure is wrong",
     )
 }
 
@@ -793,7 +800,7 @@ fn station_promise(input: &[u8], output: &[u8]) -> Promise {
     )
 }
 
-/// Whether the answer keeps what document 01 promises for the case.
+/// Whether the answer keeps what the rules' paper promises for the case.
 pub fn promise(case: &Case, answer: &Answer) -> Promise {
     if let Some(pair) = case.pair() {
         let number = judged(pair);
@@ -849,7 +856,7 @@ pub fn promise(case: &Case, answer: &Answer) -> Promise {
         (Case::HoldUp { pair, event }, Answer::HoldUp(answer)) => {
             hold_up_promise(pair, *event, answer)
         }
-        (Case::Closure { pair }, Answer::Set(answer)) => closure_promise(pair, answer),
+        (Case::Closure { pair }, Answer::Closure(answer)) => closure_promise(pair, answer),
         (Case::Check { pair }, Answer::Check(answer)) => check_promise(pair, answer),
         (Case::GuardedTick { pair }, Answer::Guarded(answer)) => guarded_promise(pair, answer),
         (

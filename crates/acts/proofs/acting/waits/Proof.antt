@@ -4,7 +4,7 @@ use Prim.Native.Nat.{ℕ}
 use native.Mathlib.Omega.{arith}
 use borrow.Author.Needs.{needs}
 use Rattle.rules.specs.declared.Table.{Table}
-use Rattle.rules.specs.Laws.Judge.{GoodTable}
+use Rattle.rules.specs.Shapes.Good.{GoodTable}
 use Rattle.acts.specs.Derived.{Own}
 use Rattle.acts.specs.Laws.Waiting.{Waiting, waiting-start, waiting-end, waiting-less, waiting-here, waiting-more}
 use Rattle.acts.proofs.acting.waits.Statement.{statement}

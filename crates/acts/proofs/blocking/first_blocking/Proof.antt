@@ -5,7 +5,7 @@ use native.Mathlib.Omega.{arith}
 use borrow.Author.Needs.{needs}
 use Rattle.rules.specs.Counting.{lowest}
 use Rattle.rules.specs.Enabled.{blocks}
-use Rattle.rules.specs.Laws.Told.{right-told}
+use Rattle.rules.specs.Laws.Granted.{right-told}
 use Rattle.rules.specs.Laws.Counting.{lowest-zero, lowest-more, lowest-here}
 use Rattle.acts.proofs.blocking.first_blocking.Statement.{statement}
 use Rattle.acts.proofs.blocking.first_blocking.Tie as tie

@@ -30,13 +30,25 @@ returns-6 : tie.Need-returns-6
 unfolding sortOf
 returns-6 c =
     let h = c .before .before .before in
-    simp (ne-eqb _ _ (h .before .before .if1 .left), ne-eqb _ _ (h .before .if3 .left), ne-eqb _ _ (h .if4 .left), eq-eqb _ _ (c .before .before .if6 .taken), eq-eqb _ _ (c .if7 .taken))
+    simp (
+      ne-eqb _ _ (h .before .before .if1 .left),
+      ne-eqb _ _ (h .before .if3 .left),
+      ne-eqb _ _ (h .if4 .left),
+      eq-eqb _ _ (c .before .before .if6 .taken),
+      eq-eqb _ _ (c .if7 .taken),
+    )
 
 returns-7 : tie.Need-returns-7
 unfolding sortOf
 returns-7 c =
     let h = c .before .before .before in
-    simp (ne-eqb _ _ (h .before .before .if1 .left), ne-eqb _ _ (h .before .if3 .left), ne-eqb _ _ (h .if4 .left), eq-eqb _ _ (c .before .before .if6 .taken), ne-eqb _ _ (c .if7 .left))
+    simp (
+      ne-eqb _ _ (h .before .before .if1 .left),
+      ne-eqb _ _ (h .before .if3 .left),
+      ne-eqb _ _ (h .if4 .left),
+      eq-eqb _ _ (c .before .before .if6 .taken),
+      ne-eqb _ _ (c .if7 .left),
+    )
 
 returns-8 : tie.Need-returns-8
 unfolding sortOf

@@ -5,7 +5,7 @@ use native.Mathlib.Omega.{arith}
 use lib.ListN.{length}
 use borrow.Author.Needs.{needs}
 use Rattle.rules.specs.declared.Table.{Table}
-use Rattle.rules.specs.Laws.Judge.{GoodTable}
+use Rattle.rules.specs.Shapes.Good.{GoodTable}
 use Rattle.acts.specs.Derived.{Own}
 use Rattle.acts.specs.Laws.Answering.{Answering, answering-start, answering-end, answering-less, answering-more}
 use Rattle.acts.proofs.effect.answered.Statement.{statement}

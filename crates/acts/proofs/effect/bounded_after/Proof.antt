@@ -1,7 +1,7 @@
 -- By the members of the words. Assumes nothing.
 use borrow.Author.Needs.{needs}
 use Rattle.rules.specs.Laws.EventSet.{has-with}
-use Rattle.rules.specs.Laws.Words.{has-or}
+use Rattle.rules.specs.Laws.Bitwise.{has-or}
 use Rattle.acts.proofs.effect.bounded_after.Statement.{statement}
 use Rattle.acts.proofs.effect.bounded_after.Tie as tie
 

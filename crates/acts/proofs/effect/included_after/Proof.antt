@@ -1,6 +1,6 @@
 -- By the members of the words. Assumes nothing.
 use borrow.Author.Needs.{needs}
-use Rattle.rules.specs.Laws.Words.{has-or}
+use Rattle.rules.specs.Laws.Bitwise.{has-or}
 use Rattle.acts.proofs.effect.included_after.Statement.{statement}
 use Rattle.acts.proofs.effect.included_after.Tie as tie
 

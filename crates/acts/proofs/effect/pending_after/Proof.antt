@@ -1,6 +1,6 @@
 -- By the members of the words. Assumes nothing.
 use borrow.Author.Needs.{needs}
-use Rattle.rules.specs.Laws.Words.{has-or, has-one}
+use Rattle.rules.specs.Laws.Bitwise.{has-or, has-one}
 use Rattle.rules.specs.Laws.Time.{one-shifted}
 use Rattle.acts.proofs.effect.pending_after.Statement.{statement}
 use Rattle.acts.proofs.effect.pending_after.Tie as tie

@@ -1,6 +1,6 @@
 -- `lowest` is the machine's count of trailing zeros, which ends at the lowest member. Assumes nothing.
 use Rattle.rules.specs.EventSet.{lowestOf}
-use Rattle.rules.specs.Laws.Words.{lowest-is-trailing}
+use Rattle.rules.specs.Laws.Bitwise.{lowest-is-trailing}
 use Rattle.acts.proofs.event_set.lowest.Statement.{statement}
 use Rattle.acts.proofs.event_set.lowest.Tie as tie
 

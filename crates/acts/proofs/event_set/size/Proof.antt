@@ -1,5 +1,5 @@
 -- `size` is the machine's count of ones, which is the number of members. Assumes nothing.
-use Rattle.rules.specs.Laws.Words.{size-is-ones}
+use Rattle.rules.specs.Laws.Bitwise.{size-is-ones}
 use Rattle.acts.proofs.event_set.size.Statement.{statement}
 use Rattle.acts.proofs.event_set.size.Tie as tie
 

@@ -7,14 +7,14 @@ use lib.ListN.{length, length-map, drop}
 use Rattle.rules.specs.declared.Marking.{Marking}
 use Rattle.rules.specs.Counting.{places}
 use Rattle.rules.specs.Holds.{emptyRecord}
-use Rattle.acts.specs.Stands.{recordAt, markingOf}
+use Rattle.acts.specs.Stands.{recordIn, markingIn}
 use Rattle.acts.specs.Laws.Laid.{read-none, read-more}
 use Rattle.acts.proofs.laid.give.Statement.{statement}
 use Rattle.acts.proofs.laid.give.Tie as tie
 
 abbrev Inv-loop : tie.InvT-loop
 Inv-loop clock sets columns n records₀ i₀ records i =
-    (i ≤ n) × (n ≤ 64) × (length records₀ ≡ 64) × (records ≡ places i (recordAt clock sets columns) ++ drop i records₀)
+    (i ≤ n) × (n ≤ 64) × (length records₀ ≡ 64) × (records ≡ places i (recordIn clock sets columns) ++ drop i records₀)
 
 abbrev μ-loop : tie.MeasureT-loop
 μ-loop clock sets columns n records₀ i₀ records i = n - i
@@ -51,7 +51,7 @@ loop-again c =
     )
 
 returns : tie.Need-returns Inv-loop μ-loop
-unfolding markingOf
+unfolding markingIn
 returns c =
     let h = c .before in
     let n = h .before .before .args .m .events in

@@ -3,7 +3,7 @@ use mathlib.Core.Path.{_≡_, _∙_, sym}
 use mathlib.Core.Bool.{cond}
 use mathlib.Core.Logic.{⊎-elim}
 use Prim.Native.Nat.{ℕ}
-use Rattle.acts.specs.Stands.{ageAt, ticksAt, recordAt}
+use Rattle.acts.specs.Stands.{ageAt, ticksAt, recordIn}
 use Rattle.acts.specs.Laws.Laid.{record-read}
 use borrow.Author.Needs.{needs}
 use Rattle.acts.proofs.laid.record_at.Statement.{statement}
@@ -31,7 +31,7 @@ record-but : (c : tie.Joined1) (deadline : ℕ)
       included = second .has-event2 .result;
       pending = third .has-event3 .result;
       bounded = fourth .has-event4 .result;
-    } ≡ recordAt (s .args .clock) (s .args .sets .now) (s .args .columns .now) (s .args .e)
+    } ≡ recordIn (s .args .clock) (s .args .sets .now) (s .args .columns .now) (s .args .e)
 record-but c deadline d =
     let fourth = c .before in
     let third = fourth .before .before in

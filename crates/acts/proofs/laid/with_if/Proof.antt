@@ -8,7 +8,7 @@ use borrow.Author.Needs.{needs}
 use lib.Dec.{eqb}
 use Rattle.rules.specs.EventSet.{has}
 use Rattle.rules.specs.Laws.EventSet.{has-zero}
-use Rattle.rules.specs.Laws.Words.{has-or, has-one}
+use Rattle.rules.specs.Laws.Bitwise.{has-or, has-one}
 use Rattle.rules.specs.Laws.Time.{one-shifted}
 use Rattle.acts.proofs.laid.with_if.Statement.{statement}
 use Rattle.acts.proofs.laid.with_if.Tie as tie

@@ -1,5 +1,5 @@
 -- The members of four words. Assumes nothing.
-use Rattle.rules.specs.Laws.Words.{has-and}
+use Rattle.rules.specs.Laws.Bitwise.{has-and}
 use borrow.Author.Needs.{needs}
 use Rattle.acts.proofs.time.bounded_pending.Statement.{statement}
 use Rattle.acts.proofs.time.bounded_pending.Tie as tie

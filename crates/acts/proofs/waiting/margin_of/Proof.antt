@@ -13,7 +13,9 @@ minus-requires c κs = search needs
 
 returns : tie.Need-returns
 unfolding marginOf
-returns c = simp (eq-eqb _ _ (c .before .before .before .if1 .taken), c .before .before .if2 .taken, c .before .if3 .taken) (ap By (toZ-ofZ (sfits-of (c .minus .ok)) ∙ c .minus .ensures))
+returns c =
+    simp (eq-eqb _ _ (c .before .before .before .if1 .taken), c .before .before .if2 .taken, c .before .if3 .taken)
+    (ap By (toZ-ofZ (sfits-of (c .minus .ok)) ∙ c .minus .ensures))
 
 returns-2 : tie.Need-returns-2
 unfolding marginOf

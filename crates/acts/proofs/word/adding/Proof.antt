@@ -12,7 +12,8 @@ shl-result : tie.Need-shl-result
 shl-result c = search needs
 
 returns : tie.Need-returns
-returns c = ap (λ (x : ℕ). bitOr (c .args .set) x) (one-shifted (c .args .event) (c .pre)) ∙ or-one (c .args .set) (c .args .event) (c .pre) (c .fits .set .fits)
+returns c =
+    ap (λ (x : ℕ). bitOr (c .args .set) x) (one-shifted (c .args .event) (c .pre)) ∙ or-one (c .args .set) (c .args .event) (c .pre) (c .fits .set .fits)
 
 pub adding-spec : {M : Type 1} → statement M
 adding-spec = tie.close (tie.spec shl-result returns)

@@ -1,7 +1,7 @@
 -- Reached from the due events by the inhibitors that are missing or pending. Assumes nothing.
 use mathlib.Core.Path.{_∙_, sym}
 use borrow.Author.Needs.{needs}
-use Rattle.rules.specs.Laws.Words.{has-and}
+use Rattle.rules.specs.Laws.Bitwise.{has-and}
 use Rattle.duties.specs.Laws.Followed.{needed-reached, needed-none}
 use Rattle.duties.specs.Laws.Sets.{missing-told, waiting-told}
 use Rattle.acts.specs.Laws.Stands.{stands-events}

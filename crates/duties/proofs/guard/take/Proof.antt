@@ -39,7 +39,8 @@ returns c =
         effect t m (s .args .e),
         c .effect .ensures t tail m good (derived-own t _ _ _ _ derived linked (s .pre .1 .1)) b stands,
         taken-in t m _ _ _
-            (sym (included-told _ tail _ (s .args .sets .now) (s .args .columns .now) m stands _ b) ∙ sym (test .before .has-event .ensures) ∙ test .if1 .taken),
+            (sym (included-told _ tail _ (s .args .sets .now) (s .args .columns .now) m stands _ b) ∙ sym (test .before .has-event .ensures)
+            ∙ test .if1 .taken),
       ),
     )
 

@@ -24,7 +24,8 @@ returns c = λ t g d b.
     c .has-event .ensures
     ∙ ap (λ (w : ℕ). has w (s .args .e))
     (awaited-reached t g (s .args .rows .now) d (s .args .e) (c .before .reached .result) (s .pre .1)
-    (subst (λ (w : ℕ). Reached (s .args .rows .now) everyEvent everyEvent w (c .before .reached .result)) (c .before .before .inhibitors .ensures) (c .before .reached .ensures)))
+    (subst (λ (w : ℕ). Reached (s .args .rows .now) everyEvent everyEvent w (c .before .reached .result)) (c .before .before .inhibitors .ensures)
+    (c .before .reached .ensures)))
 
 pub cyclic-spec : {M : Type 1} → statement M
 cyclic-spec = tie.close (tie.spec inhibitors-requires reached-requires has-event-requires returns)

@@ -7,7 +7,7 @@ use Rattle.rules.specs.EventSet.{has}
 use Rattle.rules.specs.Check.{onCycle}
 use Rattle.rules.specs.Laws.Counting.{Found}
 use Rattle.rules.specs.Laws.Time.{one-shifted}
-use Rattle.rules.specs.Laws.Judge.{GoodTable}
+use Rattle.rules.specs.Shapes.Good.{GoodTable}
 use Rattle.rules.specs.Laws.Widened.{has-below}
 use Rattle.acts.specs.Derived.{Derived}
 use Rattle.acts.specs.Laws.Members.{lowest-found, lowest-worth, lowest-less}
@@ -17,7 +17,8 @@ use Rattle.duties.proofs.inhibition.first_cyclic.Statement.{statement}
 use Rattle.duties.proofs.inhibition.first_cyclic.Tie as tie
 
 abbrev Inv-loop : tie.InvT-loop
-Inv-loop rows set left₀ left = (left < 2 ^ 64) × ((t : Table) → GoodTable t → Derived t (t .count) rows → set < 2 ^ t .events → Searched (onCycle t set) set left)
+Inv-loop rows set left₀ left =
+    (left < 2 ^ 64) × ((t : Table) → GoodTable t → Derived t (t .count) rows → set < 2 ^ t .events → Searched (onCycle t set) set left)
 
 abbrev μ-loop : tie.MeasureT-loop
 μ-loop rows set left₀ left = left
@@ -70,7 +71,8 @@ shl-left c = omega (arith, event (c .before .before) .small)
 sub-left : tie.Need-sub-left Inv-loop μ-loop
 sub-left c =
     let h = c .before .before .before in
-    rw (one-shifted _ (event (c .before .before) .small)) (lowest-worth _ (h .before .loop .inv .0) (h .loop-test .taken) _ (c .before .before .lowest .ensures))
+    rw (one-shifted _ (event (c .before .before) .small))
+    (lowest-worth _ (h .before .loop .inv .0) (h .loop-test .taken) _ (c .before .before .lowest .ensures))
 
 loop-less : tie.Need-loop-less Inv-loop μ-loop
 loop-less c =

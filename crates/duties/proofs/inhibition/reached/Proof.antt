@@ -24,7 +24,9 @@ small c = reaching-small _ _ _ _ (c .before .before .loop .inv) (c .before .loop
 
 -- and its inhibitors that were not found
 new : (c : tie.After-without Inv-loop μ-loop) → let h = c .before .before .before .before in let s = h .before .before in
-    (x : ℕ) → has (c .without .result) x ≡ (has (inhibitorsIn (s .args .rows .now) (s .args .conditions) (s .args .milestones) (c .before .before .lowest .result)) x && not (has (h .loop .found) x))
+    (x : ℕ) → has (c .without .result) x
+    ≡ (has (inhibitorsIn (s .args .rows .now) (s .args .conditions) (s .args .milestones) (c .before .before .lowest .result)) x
+    && not (has (h .loop .found) x))
 new c x = c .without .ensures x ∙ ap (λ (w : ℕ). has w x && not (has (c .before .before .before .before .loop .found) x)) (c .before .inhibitors .ensures)
 
 loop-holds : tie.Need-loop-holds Inv-loop μ-loop

@@ -1,7 +1,7 @@
 -- What is reached from the busy events by every inhibitor. Assumes nothing.
 use mathlib.Core.Path.{_∙_}
 use borrow.Author.Needs.{needs}
-use Rattle.rules.specs.Laws.Words.{has-and}
+use Rattle.rules.specs.Laws.Bitwise.{has-and}
 use Rattle.duties.specs.Laws.Followed.{closure-reached}
 use Rattle.duties.specs.Laws.Reasons.{busy-word}
 use Rattle.duties.specs.Laws.Sets.{owed-told}

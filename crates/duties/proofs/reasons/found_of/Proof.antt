@@ -5,7 +5,8 @@ use Rattle.rules.specs.declared.Table.{Table}
 use Rattle.rules.specs.Counting.{lowest}
 use Rattle.rules.specs.Check.{onCycle}
 use Rattle.duties.specs.Reasons.{verdictOf}
-use Rattle.duties.specs.Laws.Reasons.{Given, given, afterTwo, afterThree, afterFour, afterFive, two-none, two-at, three-none, three-at, four-none, four-at, five-none, five-at, six-none, six-at}
+use Rattle.duties.specs.Laws.Reasons.{Given, given, afterTwo, afterThree, afterFour, afterFive, two-none, two-at, three-none, three-at, four-none}
+use Rattle.duties.specs.Laws.Reasons.{four-at, five-none, five-at, six-none, six-at}
 use Rattle.duties.proofs.reasons.found_of.Statement.{statement}
 use Rattle.duties.proofs.reasons.found_of.Tie as tie
 
@@ -37,14 +38,16 @@ returns-2 c = λ t good made q fits.
     let g = given good made q fits in
     three-at g _ (c .before .led-to .ensures) (c .if2 .taken) _ refl ∙ sym (past-two (c .before .before) t g)
 
-past-three : (c : tie.Else2) → let s = c .before .before .before .before .before in (t : Table) → Of s t → verdictOf t (s .args .closed) ≡ afterThree t (s .args .closed)
+past-three : (c : tie.Else2) → let s =
+    c .before .before .before .before .before in (t : Table) → Of s t → verdictOf t (s .args .closed) ≡ afterThree t (s .args .closed)
 past-three c t g = past-two (c .before .before) t g ∙ three-none g _ (c .before .led-to .ensures) (c .if2 .left)
 
 -- 4
 first-cyclic-requires : tie.Need-first-cyclic-requires
 first-cyclic-requires c κs = c .before .before .before .before .before .pre
 
-cyclic-made : (c : tie.After-first-cyclic) → let s = c .before .before .before .before .before .before in (t : Table) → Of s t → c .first-cyclic .result ≡ lowest 64 (onCycle t (s .args .closed))
+cyclic-made : (c : tie.After-first-cyclic) → let s =
+    c .before .before .before .before .before .before in (t : Table) → Of s t → c .first-cyclic .result ≡ lowest 64 (onCycle t (s .args .closed))
 cyclic-made c t g = c .first-cyclic .ensures t (g .good) (g .made) (g .fits)
 
 returns-3 : tie.Need-returns-3
@@ -52,7 +55,8 @@ returns-3 c = λ t good made q fits.
     let g = given good made q fits in
     four-at g _ (cyclic-made (c .before) t g) (c .if3 .taken) ∙ sym (past-three (c .before .before) t g)
 
-past-four : (c : tie.Else3) → let s = c .before .before .before .before .before .before .before in (t : Table) → Of s t → verdictOf t (s .args .closed) ≡ afterFour t (s .args .closed)
+past-four : (c : tie.Else3) → let s =
+    c .before .before .before .before .before .before .before in (t : Table) → Of s t → verdictOf t (s .args .closed) ≡ afterFour t (s .args .closed)
 past-four c t g = past-three (c .before .before) t g ∙ four-none g _ (cyclic-made (c .before) t g) (c .if3 .left)
 
 -- 5
@@ -72,7 +76,9 @@ returns-4 c = λ t good made q fits.
     five-at g _ _ _ (h .before .before .led-to2 .ensures) (h .before .led-to3 .ensures) (h .led-to4 .ensures) (c .if4 .taken) _ refl
     ∙ sym (past-four (h .before .before .before) t g)
 
-past-five : (c : tie.Else4) → let s = c .before .before .before .before .before .before .before .before .before .before .before in (t : Table) → Of s t → verdictOf t (s .args .closed) ≡ afterFive t (s .args .closed)
+past-five : (c : tie.Else4) → let s =
+    c .before .before .before .before .before .before .before .before .before .before .before in (t : Table) → Of s t
+    → verdictOf t (s .args .closed) ≡ afterFive t (s .args .closed)
 past-five c t g =
     let h = c .before in
     past-four (h .before .before .before) t g

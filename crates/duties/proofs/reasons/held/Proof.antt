@@ -72,8 +72,10 @@ loop-again c =
       omega (arith, h .loop .inv .0),
       λ x.
           ⊎-elim
-          (λ w. chosen-in (isHeld rows) x (h .loop .found) (h .loop .left) e (p .holds) (ap not (ne-eqb _ 0 (λ q. w .0 .taken (told ∙ q)))) (w .2 ∙ w .1 .ensures) (h .loop .inv .1 x))
-          (λ w. chosen-out (isHeld rows) x (h .loop .found) (h .loop .left) e (p .holds) (ap not (eq-eqb _ 0 (sym told ∙ w .0 .left))) (w .1) (h .loop .inv .1 x))
+          (λ w. chosen-in (isHeld rows) x (h .loop .found) (h .loop .left) e (p .holds) (ap not (ne-eqb _ 0 (λ q. w .0 .taken (told ∙ q))))
+          (w .2 ∙ w .1 .ensures) (h .loop .inv .1 x))
+          (λ w. chosen-out (isHeld rows) x (h .loop .found) (h .loop .left) e (p .holds) (ap not (eq-eqb _ 0 (sym told ∙ w .0 .left))) (w .1)
+          (h .loop .inv .1 x))
           (c .if1 .came),
     )
 

@@ -66,8 +66,10 @@ loop-again c =
     let s = h .before .before in
     let e = c .before .lowest .result in
     let p = event-left (c .before) in
-    rw (one-shifted e (p .small))
-    (omega (arith, h .loop .inv .0), λ x. brought-more (λ e. rowOf (s .args .rows .now) e (s .args .sort)) x (h .loop .found) (h .loop .left) e (p .small) (p .holds) (h .loop .inv .1 x))
+    rw (one-shifted e (p .small)) (
+      omega (arith, h .loop .inv .0),
+      λ x. brought-more (λ e. rowOf (s .args .rows .now) e (s .args .sort)) x (h .loop .found) (h .loop .left) e (p .small) (p .holds) (h .loop .inv .1 x),
+    )
 
 returns : tie.Need-returns Inv-loop μ-loop
 returns c =

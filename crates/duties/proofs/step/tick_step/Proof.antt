@@ -10,7 +10,7 @@ use Rattle.rules.specs.declared.Record.{Record}
 use Rattle.rules.specs.declared.Marking.{Marking}
 use Rattle.rules.specs.declared.CheckAnswer.the-variants.{Accepts}
 use Rattle.rules.specs.Check.{verdict}
-use Rattle.rules.specs.Laws.Judge.{GoodTable}
+use Rattle.rules.specs.Shapes.Good.{GoodTable}
 use Rattle.acts.specs.declared.derived.Head.{Head}
 use Rattle.acts.specs.Derived.{headOf, Derived, Linked}
 use Rattle.acts.specs.Stands.{Stands}

@@ -1,61 +1,80 @@
 -- The event's words and the marking's are made, the event is asked for, and the marking that the words then stand for is given back. Assumes
 -- nothing.
-use mathlib.Core.Path.{_≡_, refl, sym, _∙_}
+use mathlib.Core.Path.{_≡_, refl, sym}
 use native.Mathlib.Omega.{arith}
 use borrow.Author.Needs.{needs}
 use Rattle.rules.specs.Numbers.{done}
 use Rattle.rules.specs.Effect.{effect}
-use Rattle.rules.specs.Laws.Ask.{askNumber}
+use Rattle.rules.specs.Shapes.Asked.{askNumber}
 use Rattle.acts.specs.Stands.{Stands}
 use Rattle.engine.specs.Laws.Judging.{unused, table-good, few-records, laid-out, given-back, acted-done, acted-refused}
 use Rattle.engine.proofs.asking.asked.Statement.{statement}
 use Rattle.engine.proofs.asking.asked.Tie as tie
 
+-- The places that the proof looks back to, each from a later one: where the call begins, where the event's row and links are made, where the
+-- head is known, and where the event has been asked for.
+abbrev start : tie.After-own → tie.Start
+start c = c .before .before .before
+
+abbrev made : tie.After-lay → tie.After-own
+made c = c .before .before .before
+
+abbrev head : tie.After-ask → tie.After-head-of
+head c = c .before .before .before .before .before
+
+abbrev asking : tie.After-give → tie.After-ask
+asking c = c .before .before .before .before
+
+-- where the row and the links are made and where the call begins, from where the head is known
+abbrev own : tie.After-head-of → tie.After-own
+own c = made (c .before)
+
+abbrev beginning : tie.After-head-of → tie.Start
+beginning c = start (own c)
+
 own-requires : tie.Need-own-requires
 own-requires c κs = (table-good _ _ (c .before .before .pre), (refl, refl))
 
 lay-requires : tie.Need-lay-requires
-lay-requires c κs = (few-records _ _ (c .before .before .before .before .before .pre), (refl, refl))
+lay-requires c κs = (few-records _ _ (start (c .before .before) .pre), (refl, refl))
 
 head-of-requires : tie.Need-head-of-requires
 head-of-requires c κs = search needs
 
 slice-aggregate-ask : tie.Need-slice-aggregate-ask
-slice-aggregate-ask c = sym (c .before .before .before .before .before .own .ensures .1 .0)
+slice-aggregate-ask c = sym (made (c .before .before) .own .ensures .1 .0)
 
 slice-aggregate-ask-2 : tie.Need-slice-aggregate-ask-2
-slice-aggregate-ask-2 c = sym (c .before .before .before .before .before .before .own .ensures .1 .1)
+slice-aggregate-ask-2 c = sym (made (c .before .before .before) .own .ensures .1 .1)
 
 ask-requires : tie.Need-ask-requires
 ask-requires c κs =
-    let made = c .before .before .before .before .before .before .before .before in
-    let s = made .before .before .before in
-    let known = table-good _ _ (s .pre) in
-    let head = c .before .before .before .before .head-of .ensures in
-    ((rw head (known .few-events), made .own .ensures .1 .1, omega arith), λ b. omega (arith, made .own .ensures .1 .0))
+    let at = c .before .before .before .before in
+    let lengths = own at .own .ensures .1 in
+    let good = table-good _ _ (beginning at .pre) in
+    ((rw (at .head-of .ensures) (good .few-events), lengths .1, omega arith), λ b. omega (arith, lengths .0))
 
 -- what the ask told, of the table and the marking that were handed in
-abbrev start : tie.After-ask → tie.Start
-start c = c .before .before .before .before .before .before .before .before .before .before .before .before
-
-told : (c : tie.After-ask) → let a = start c .args in
+told : (c : tie.After-ask) → let a = beginning (head c) .args in
     (c .ask .result ≡ askNumber (a .controllable) (a .t) (a .m) (a .event))
-    × Stands (a .t .events) (unused (a .m)) 0 (c .ask .last .1 .1 .1 .1 .1 .0) (c .ask .last .1 .1 .1 .1 .1 .1 .0) (done (c .ask .result) (effect (a .t) (a .m) (a .event)) (a .m))
+    × Stands (a .t .events) (unused (a .m)) 0 (c .ask .last .1 .1 .1 .1 .1 .0) (c .ask .last .1 .1 .1 .1 .1 .1 .0)
+    (done (c .ask .result) (effect (a .t) (a .m) (a .event)) (a .m))
 told c =
-    let made = c .before .before .before .before .before .before .before .before .before in
-    let a = made .before .before .before .args in
-    let d = made .before .before .before .pre in
-    c .ask .ensures (a .t) (unused (a .m)) (a .m) (table-good _ _ d) (c .before .before .before .before .before .head-of .ensures) (λ b. made .own .ensures .0)
-    (laid-out (a .t) (a .m) d (c .before .before .before .before .before .before .lay .ensures))
+    let at = head c in
+    let a = beginning at .args in
+    let d = beginning at .pre in
+    c .ask .ensures (a .t) (unused (a .m)) (a .m) (table-good _ _ d) (at .head-of .ensures) (λ b. own at .own .ensures .0)
+    (laid-out (a .t) (a .m) d (at .before .lay .ensures))
 
 give-requires : tie.Need-give-requires
-give-requires c κs = few-records _ _ (c .before .before .before .before .before .before .before .before .before .before .before .before .before .before .before .pre)
+give-requires c κs = few-records _ _ (beginning (head (c .before .before .before)) .pre)
 
 returns : tie.Need-returns
 returns c =
-    let k = c .before .before .before .before in
-    let s = k .before .before .before .before .before .before .before .before .before .before .before .before in
-    acted-done _ _ (c .before .before .before .if1 .taken) (told k .0) (given-back (s .args .t) (s .args .m) (s .pre) _ _ _ (c .give .ensures) (told k .1))
+    let at = asking c in
+    let s = beginning (head at) in
+    acted-done _ _ (c .before .before .before .if1 .taken) (told at .0)
+    (given-back (s .args .t) (s .args .m) (s .pre) _ _ _ (c .give .ensures) (told at .1))
 
 returns-2 : tie.Need-returns-2
 returns-2 c = acted-refused _ _ (c .if1 .left) (told (c .before) .0)

@@ -8,7 +8,7 @@ use Rattle.rules.specs.Judge.{judged}
 use Rattle.rules.specs.Trace.{mostSteps}
 use Rattle.rules.specs.Laws.Judge.{good}
 use Rattle.engine.specs.Heard.{afterMarking}
-use Rattle.duties.specs.Noted.{Told}
+use Rattle.duties.specs.AtStart.{AtStart}
 use Rattle.engine.specs.Laws.Heard.{steps-long, steps-refused, steps-granted, still-long, steps-told, told-one}
 use borrow.Author.Needs.{needs}
 use Rattle.engine.proofs.heard.after_marking.Statement.{statement}
@@ -48,7 +48,7 @@ same-length c = search needs
 returns : tie.Need-returns
 returns c =
     let a = c .before .before .before .before .args in
-    subst (λ (l : List ℕ). Told l (a .output .now) 1 (set (a .output .now) 0 (c .long-number .result)))
+    subst (λ (l : List ℕ). AtStart l (a .output .now) 1 (set (a .output .now) 0 (c .long-number .result)))
     (sym (steps-long (a .t) (a .m) (a .steps .now) (a .beyond) (c .before .if1 .taken) (c .before .before .before .before .pre .1) (c .long-number .ensures)))
     (told-one _ _ (omega (arith, c .before .before .before .before .pre .0)))
 
@@ -66,7 +66,7 @@ returns-2 c =
     let s = c .before .before .before .before .before in
     let a = s .args in
     let number = c .before .bytes-number in
-    subst (λ (l : List ℕ). Told l (a .output .now) 1 (set (a .output .now) 0 (number .result)))
+    subst (λ (l : List ℕ). AtStart l (a .output .now) 1 (set (a .output .now) 0 (number .result)))
     (sym (ap (afterMarking (a .t) (a .m) (a .steps .now)) (c .before .before .if1 .left)
     ∙ steps-refused (a .t) (a .m) (a .steps .now) (number .ensures) (c .if2 .taken)))
     (told-one _ _ (omega (arith, s .pre .0)))

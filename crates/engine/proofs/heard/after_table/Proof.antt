@@ -5,7 +5,7 @@ use Prim.Native.Nat.{ℕ}
 use native.Mathlib.Omega.{arith}
 use lib.ListN.{set}
 use lib.Seq.{length-take-le}
-use Rattle.duties.specs.Noted.{Told}
+use Rattle.duties.specs.AtStart.{AtStart}
 use Rattle.engine.specs.Laws.Heard.{marking-refused, marking-read, steps-there, told-one}
 use borrow.Author.Needs.{needs}
 use Rattle.engine.proofs.heard.after_table.Statement.{statement}
@@ -33,8 +33,9 @@ returns : tie.Need-returns
 returns c =
     let a = c .before .before .before .before .before .before .before .before .args in
     let read = c .before .before .read-marking in
-    subst (λ (l : List ℕ). Told l (a .output .now) 1 (set (a .output .now) 0 (read .result .number)))
-    (sym (marking-refused (a .t) (a .rest .now) (a .beyond) (c .before .before .before .before .least .result) (c .before .before .before .before .least .ensures) (read .result) (read .ensures) (c .if1 .taken)))
+    subst (λ (l : List ℕ). AtStart l (a .output .now) 1 (set (a .output .now) 0 (read .result .number)))
+    (sym (marking-refused (a .t) (a .rest .now) (a .beyond) (c .before .before .before .before .least .result)
+    (c .before .before .before .before .least .ensures) (read .result) (read .ensures) (c .if1 .taken)))
     (told-one _ _ (omega (arith, c .before .before .before .before .before .before .before .before .pre .1 .0)))
 
 sub-after-marking : tie.Need-sub-after-marking
@@ -50,8 +51,11 @@ after-marking-requires : tie.Need-after-marking-requires
 after-marking-requires c κs =
     let a = c .before .before .before .before .before .before .before .before .before .before .before .args in
     let read = c .before .before .before .before .before .read-marking in
-    let pre = c .before .before .before .before .before .before .before .before .before .before .before .pre in
-    (pre .1 .0, steps-there (a .t) (a .rest .now) (a .beyond) (c .before .before .before .before .before .before .before .least .result) (c .before .before .before .before .before .before .before .least .ensures) (read .result) (read .ensures) (pre .0) (pre .1 .1))
+    let pre = c .before .before .before .before .before .before .before .before .before .before .before .pre in (
+      pre .1 .0,
+      steps-there (a .t) (a .rest .now) (a .beyond) (c .before .before .before .before .before .before .before .least .result)
+          (c .before .before .before .before .before .before .before .least .ensures) (read .result) (read .ensures) (pre .0) (pre .1 .1),
+    )
 
 same-length-2 : tie.Need-same-length-2
 same-length-2 c = search needs
@@ -60,8 +64,10 @@ returns-2 : tie.Need-returns-2
 returns-2 c =
     let a = c .before .before .before .before .before .before .before .before .before .before .before .before .before .before .args in
     let read = c .before .before .before .before .before .before .before .before .read-marking in
-    subst (λ (l : List ℕ). Told l (a .output .now) (c .before .before .after-marking .result) (c .before .before .after-marking .last .1 .1 .1 .1 .0))
-    (marking-read (a .t) (a .rest .now) (a .beyond) (c .before .before .before .before .before .before .before .before .before .before .least .result) (c .before .before .before .before .before .before .before .before .before .before .least .ensures) (read .result) (read .ensures) (c .before .before .before .before .before .before .if1 .left))
+    subst (λ (l : List ℕ). AtStart l (a .output .now) (c .before .before .after-marking .result) (c .before .before .after-marking .last .1 .1 .1 .1 .0))
+    (marking-read (a .t) (a .rest .now) (a .beyond) (c .before .before .before .before .before .before .before .before .before .before .least .result)
+    (c .before .before .before .before .before .before .before .before .before .before .least .ensures) (read .result) (read .ensures)
+    (c .before .before .before .before .before .before .if1 .left))
     (c .before .before .after-marking .ensures)
 
 pub after-table-spec : {M : Type 1} → statement M

@@ -1,7 +1,7 @@
 -- The number so far stands, and where it is 'done' the event must exist. Assumes nothing.
 use mathlib.Core.Path.{refl}
 use borrow.Author.Tests.{lt-ltb, le-ltb}
-use Rattle.rules.specs.Laws.Told.{stands}
+use Rattle.rules.specs.Laws.Granted.{stands}
 use Rattle.engine.proofs.judge.then_event.Statement.{statement}
 use Rattle.engine.proofs.judge.then_event.Tie as tie
 

@@ -1,7 +1,7 @@
 -- The table's number stands, and where it is 'done' the marking is asked. Assumes nothing.
 use mathlib.Core.Path.{refl}
 use borrow.Author.Needs.{needs}
-use Rattle.rules.specs.Laws.Told.{stands}
+use Rattle.rules.specs.Laws.Granted.{stands}
 use Rattle.engine.proofs.judge.then_marking.Statement.{statement}
 use Rattle.engine.proofs.judge.then_marking.Tie as tie
 

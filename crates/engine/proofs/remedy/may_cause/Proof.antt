@@ -23,14 +23,16 @@ returns c =
     let exists = c .before .before .before .if1 .taken in (
       λ t tail m good derived linked of stands.
           cause-enabled t (a .head) of m (a .e) exists (sym (c .before .before .has-event .ensures) ∙ c .before .if2 .taken)
-          (c .may-act .ensures t tail m good (derived-own t (t .count) (a .e) _ _ derived linked (omega arith)) (exists-headed t (a .head) of (a .e) exists) stands),
+          (c .may-act .ensures t tail m good (derived-own t (t .count) (a .e) _ _ derived linked (omega arith))
+          (exists-headed t (a .head) of (a .e) exists) stands),
       λ q. exists,
     )
 
 returns-2 : tie.Need-returns-2
 returns-2 c =
     let a = c .before .before .before .before .before .before .args in (
-      λ t tail m good derived linked of stands. cause-not t (a .head) of m (a .e) (c .before .before .if1 .taken) (sym (c .before .has-event .ensures) ∙ c .if2 .left),
+      λ t tail m good derived linked of stands. cause-not t (a .head) of m (a .e) (c .before .before .if1 .taken)
+          (sym (c .before .has-event .ensures) ∙ c .if2 .left),
       λ q. absurd (true≢false (sym q)),
     )
 

@@ -9,8 +9,23 @@ use borrow.Author.Needs.{needs}
 use Rattle.engine.proofs.trace.stepped.Statement.{statement}
 use Rattle.engine.proofs.trace.stepped.Tie as tie
 
+-- The places that the proof looks back to, each from a later one: where the call begins, where the marking is laid out, and where the head is
+-- known.
+abbrev start : tie.After-columns → tie.Start
+start c = c .before .before .before .before .before
+
+abbrev laid : tie.After-head-of → tie.After-lay
+laid c = c .before .before .before
+
+abbrev head : tie.After-step → tie.After-head-of
+head c = c .before .before .before
+
+-- where the call begins, from where the head is known
+abbrev beginning : tie.After-head-of → tie.Start
+beginning c = start (laid c .before)
+
 lay-requires : tie.Need-lay-requires
-lay-requires c κs = let s = c .before .before .before .before .before in (few-records _ _ (s .pre .0 .judged-done), (refl, refl))
+lay-requires c κs = (few-records _ _ (start c .pre .0 .judged-done), (refl, refl))
 
 slice-aggregate-step : tie.Need-slice-aggregate-step
 slice-aggregate-step c = search needs
@@ -23,29 +38,26 @@ head-of-requires c κs = search needs
 
 step-requires : tie.Need-step-requires
 step-requires c κs =
-    let at-head = c .before .before in
-    let s = at-head .before .before .before .before .before .before .before .before .before in
-    let known = s .pre .0 .judged-done in
-    let events = ap {B = ℕ} (λ (h : Head). h .events) (at-head .head-of .ensures) in
-    (omega (arith, events, some-events _ _ known), omega (arith, events, table-good _ _ known .few-events), s .pre .1 .0 .size, s .pre .1 .1 .size, omega arith)
+    let at = c .before .before in
+    let s = beginning at in
+    let d = s .pre .0 .judged-done in
+    let events = ap {B = ℕ} (λ (h : Head). h .events) (at .head-of .ensures) in
+    (omega (arith, events, some-events _ _ d), omega (arith, events, table-good _ _ d .few-events), s .pre .1 .0 .size, s .pre .1 .1 .size, omega arith)
 
 give-requires : tie.Need-give-requires
-give-requires c κs =
-    let s = c .before .before .before .before .before .before .before .before .before .before .before .before .before .before in
-    few-records _ _ (s .pre .0 .judged-done)
+give-requires c κs = few-records _ _ (beginning (head (c .before .before)) .pre .0 .judged-done)
 
 returns : tie.Need-returns
 returns c =
-    let at-step = c .before .before .before in
-    let at-head = at-step .before .before .before in
-    let at-lay = at-head .before .before .before in
-    let s = at-lay .before .before .before .before .before .before in
+    let step = c .before .before .before in
+    let at = head step in
+    let s = beginning at in
     let r = s .args .r in
     let fit = s .pre .0 in
-    let laid = laid-out (s .args .t) (r .marking) (fit .judged-done) (at-lay .lay .ensures) in
+    let stands = laid-out (s .args .t) (r .marking) (fit .judged-done) (laid at .lay .ensures) in
     let turn =
-    at-step .step .ensures .1 (s .args .t) _ _ (table-good _ _ (fit .judged-done)) (s .pre .1 .0) (s .pre .1 .1) (at-head .head-of .ensures)
-    (fit .accepts) laid in
+    step .step .ensures .1 (s .args .t) _ _ (table-good _ _ (fit .judged-done)) (s .pre .1 .0) (s .pre .1 .1) (at .head-of .ensures)
+    (fit .accepts) stands in
     further-turned r turn (given-back (s .args .t) (r .marking) (fit .judged-done) _ _ _ (c .give .ensures) (turn .stands))
 
 pub stepped-spec : {M : Type 1} → statement M

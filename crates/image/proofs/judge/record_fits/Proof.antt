@@ -19,16 +19,33 @@ limit-if-requires-2 c κs = search needs
 returns-2 : tie.Need-returns-2
 unfolding recordFits
 returns-2 c =
-    rw (sym (c .before .before .before .before .before .limit-if .ensures .0), le-leb _ _ (c .before .before .before .if1 .left), c .before .if2 .taken, sym (c .before .before .limit-if2 .ensures .0))
+    rw (
+      sym (c .before .before .before .before .before .limit-if .ensures .0),
+      le-leb _ _ (c .before .before .before .if1 .left),
+      c .before .if2 .taken,
+      sym (c .before .before .limit-if2 .ensures .0),
+    )
 
 returns-3 : tie.Need-returns-3
 unfolding recordFits
-returns-3 c = rw (sym (c .before .before .before .before .before .limit-if .ensures .0), le-leb _ _ (c .before .before .before .if1 .left), c .before .if2 .left, c .if3 .taken)
+returns-3 c =
+    rw (
+      sym (c .before .before .before .before .before .limit-if .ensures .0),
+      le-leb _ _ (c .before .before .before .if1 .left),
+      c .before .if2 .left,
+      c .if3 .taken,
+    )
 
 returns-4 : tie.Need-returns-4
 unfolding recordFits
 returns-4 c =
-    rw (sym (c .before .before .before .before .before .before .limit-if .ensures .0), le-leb _ _ (c .before .before .before .before .if1 .left), c .before .before .if2 .left, c .before .before .before .limit-if2 .ensures .0, c .before .if3 .left)
+    rw (
+      sym (c .before .before .before .before .before .before .limit-if .ensures .0),
+      le-leb _ _ (c .before .before .before .before .if1 .left),
+      c .before .before .if2 .left,
+      c .before .before .before .limit-if2 .ensures .0,
+      c .before .if3 .left,
+    )
 
 pub record-fits-spec : {M : Type 1} → statement M
 record-fits-spec = tie.close (tie.spec limit-if-requires returns limit-if-requires-2 returns-2 returns-3 returns-4)

@@ -27,7 +27,12 @@ cast-right c = search needs
 returns-4 : tie.Need-returns-4
 unfolding relationNumber
 returns-4 c =
-    simp (le-leb _ _ (c .before .before .before .before .before .before .if1 .left), le-leb _ _ (c .before .before .before .before .if2 .left), lt-ltb _ _ (c .before .before .if3 .left), le-ltb _ _ (c .if4 .taken))
+    simp (
+      le-leb _ _ (c .before .before .before .before .before .before .if1 .left),
+      le-leb _ _ (c .before .before .before .before .if2 .left),
+      lt-ltb _ _ (c .before .before .if3 .left),
+      le-ltb _ _ (c .if4 .taken),
+    )
 
 time-fits-requires : tie.Need-time-fits-requires
 time-fits-requires c κs = search needs

@@ -14,11 +14,23 @@ returns-2 c = rw (eq-eqb _ _ (c .before .if1 .taken), c .if2 .left)
 
 returns-3 : tie.Need-returns-3
 unfolding timeFits
-returns-3 c = rw (ne-eqb _ _ (c .before .before .before .before .before .if1 .left), eq-eqb _ _ (c .before .before .before .if3 .taken), c .before .before .if4 .taken, lt-leb _ _ (c .if5 .taken))
+returns-3 c =
+    rw (
+      ne-eqb _ _ (c .before .before .before .before .before .if1 .left),
+      eq-eqb _ _ (c .before .before .before .if3 .taken),
+      c .before .before .if4 .taken,
+      lt-leb _ _ (c .if5 .taken),
+    )
 
 returns-4 : tie.Need-returns-4
 unfolding timeFits
-returns-4 c = rw (ne-eqb _ _ (c .before .before .before .before .before .before .if1 .left), eq-eqb _ _ (c .before .before .before .before .if3 .taken), c .before .before .before .if4 .taken, le-leb _ _ (c .before .if5 .left))
+returns-4 c =
+    rw (
+      ne-eqb _ _ (c .before .before .before .before .before .before .if1 .left),
+      eq-eqb _ _ (c .before .before .before .before .if3 .taken),
+      c .before .before .before .if4 .taken,
+      le-leb _ _ (c .before .if5 .left),
+    )
 
 returns-5 : tie.Need-returns-5
 unfolding timeFits

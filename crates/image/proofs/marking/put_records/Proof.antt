@@ -10,7 +10,8 @@ use Rattle.rules.specs.declared.Marking.{Marking}
 use Rattle.rules.specs.Fields.{bytesOf}
 use Rattle.rules.specs.Image.{recordBytes, eventImage}
 use Rattle.rules.specs.Laws.Pieces.{standing, standing-none, standing-length, standing-more}
-use Rattle.image.specs.Laws.Records.{image-word, records-sized}
+use Rattle.rules.specs.Laws.Written.{records-sized}
+use Rattle.image.specs.Laws.Packed.{image-word}
 use Rattle.image.specs.Laws.Parts.{events-few, record-done}
 use Rattle.image.proofs.marking.put_records.Statement.{statement}
 use Rattle.image.proofs.marking.put_records.Tie as tie
@@ -58,7 +59,8 @@ loop-again c =
     let at = c .before .before .before .before .before .before .before .loop in
     let piece = ap (bytesOf recordBytes) (c .before .before .before .word-of .ensures) ∙ sym (image-word _) in
     let place = sym (zero-add (recordBytes * at .i)) in
-    let more = standing-more (records-sized (a .t1)) (a .buffer .now) 0 _ (at .i) (omega arith) place (at .inv .2) piece (c .before .before .put-word .ensures) in
+    let more =
+    standing-more (records-sized (a .t1)) (a .buffer .now) 0 _ (at .i) (omega arith) place (at .inv .2) piece (c .before .before .put-word .ensures) in
     (omega arith, search needs, more)
 
 same-length : tie.Need-same-length Inv-loop μ-loop

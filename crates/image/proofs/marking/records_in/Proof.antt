@@ -16,8 +16,8 @@ use Rattle.rules.specs.Judge.{recordNumber}
 use Rattle.rules.specs.Image.{recordAt, recordBit}
 use Rattle.rules.specs.Laws.Counting.{filled-none, filled-more}
 use Rattle.rules.specs.Laws.Numbers.{first-none, first-more, first-here}
-use Rattle.image.specs.Words.{recordOfWord}
-use Rattle.image.specs.Laws.Words.{record-parts}
+use Rattle.image.specs.Packed.{recordOfWord}
+use Rattle.image.specs.Laws.Packed.{record-parts}
 use Rattle.image.proofs.marking.records_in.Statement.{statement}
 use Rattle.image.proofs.marking.records_in.Tie as tie
 
@@ -56,10 +56,13 @@ record-number-requires : tie.Need-record-number-requires Inv-loop μ-loop
 record-number-requires c κs = search needs
 
 -- the record that a turn reads, and its number
-read : (c : tie.After-record-of Inv-loop μ-loop) → c .record-of .result ≡ recordIn (c .before .before .before .before .before .before .before .args .image .now) (c .before .before .before .loop .i)
+read : (c : tie.After-record-of Inv-loop μ-loop)
+    → c .record-of .result ≡ recordIn (c .before .before .before .before .before .before .before .args .image .now) (c .before .before .before .loop .i)
 read c = c .record-of .ensures ∙ ap recordOfWord (c .before .word .ensures) ∙ record-parts _ _
 
-number : (c : tie.After-record-number Inv-loop μ-loop) → c .record-number .result ≡ numberIn (c .before .before .before .before .before .before .before .before .args .image .now) (c .before .before .before .before .loop .i)
+number : (c : tie.After-record-number Inv-loop μ-loop)
+    → c .record-number .result ≡ numberIn (c .before .before .before .before .before .before .before .before .args .image .now)
+    (c .before .before .before .before .loop .i)
 number c = c .record-number .ensures ∙ ap recordNumber (read (c .before))
 
 refused-requires : tie.Need-refused-requires Inv-loop μ-loop
@@ -68,7 +71,10 @@ refused-requires c κs = search needs
 returns : tie.Need-returns Inv-loop μ-loop
 returns c =
     let here = number (c .before .before) in
-    let first = first-here _ (c .before .before .before .before .before .before .before .before .before .before .args .events) (c .before .before .before .before .before .before .loop .i) (omega arith) (c .before .before .before .before .before .before .loop .inv .2) (λ z. c .before .if1 .taken (here ∙ z)) ∙ sym here in
+    let first =
+    first-here _ (c .before .before .before .before .before .before .before .before .before .before .args .events)
+    (c .before .before .before .before .before .before .loop .i) (omega arith) (c .before .before .before .before .before .before .loop .inv .2)
+    (λ z. c .before .if1 .taken (here ∙ z)) ∙ sym here in
     c .refused .ensures ∙ rw (first, ne-eqb _ _ (c .before .if1 .taken))
 
 mul-records : tie.Need-mul-records Inv-loop μ-loop
@@ -87,7 +93,9 @@ loop-again : tie.Need-loop-again Inv-loop μ-loop
 loop-again c =
     let i = c .before .before .before .before .before .loop .i in (
       omega arith,
-      rw (c .before .before .before .before .before .loop .inv .1, read (c .before .before)) (filled-more (recordIn (c .before .before .before .before .before .before .before .before .before .args .image .now)) emptyRecord mostEvents i (omega arith)),
+      rw (c .before .before .before .before .before .loop .inv .1, read (c .before .before))
+          (filled-more (recordIn (c .before .before .before .before .before .before .before .before .before .args .image .now)) emptyRecord mostEvents i
+          (omega arith)),
       first-more _ i (c .before .before .before .before .before .loop .inv .2) (sym (number (c .before)) ∙ c .if1 .left),
     )
 

@@ -9,8 +9,8 @@ use mir.Val.{boolByte}
 use Rattle.rules.specs.declared.Record.{Record}
 use Rattle.rules.specs.Fields.{bit}
 use Rattle.rules.specs.Judge.{recordNumber}
-use Rattle.image.specs.Words.{wordOfRecord}
-use Rattle.image.specs.Laws.Words.{word-fits}
+use Rattle.image.specs.Packed.{wordOfRecord}
+use Rattle.image.specs.Laws.Packed.{word-fits}
 use Rattle.image.proofs.marking.word_of.Statement.{statement}
 use Rattle.image.proofs.marking.word_of.Tie as tie
 

@@ -45,7 +45,8 @@ word-requires : tie.Need-word-requires Inv-loop μ-loop
 word-requires c κs = omega arith
 
 -- the spare bits of the byte that a turn reads
-spare : (c : tie.After-word Inv-loop μ-loop) → c .word .result % 64 ≡ classSpare (c .before .before .before .before .args .image .now) (c .before .before .loop .i)
+spare : (c : tie.After-word Inv-loop μ-loop)
+    → c .word .result % 64 ≡ classSpare (c .before .before .before .before .args .image .now) (c .before .before .loop .i)
 spare c = ap (λ (w : ℕ). w % 64) (c .word .ensures) ∙ class-spare _ _
 
 returns : tie.Need-returns Inv-loop μ-loop
@@ -53,7 +54,8 @@ returns c =
     let set : classNumber (c .before .before .before .before .before .args .image .now) (c .before .before .before .loop .i) ≡ 2 =
     rw (ne-eqb _ 0 (λ z. c .if1 .taken (spare (c .before) ∙ z))) in
     let first =
-    first-here _ (c .before .before .before .before .before .args .events) (c .before .before .before .loop .i) (omega arith) (c .before .before .before .loop .inv .1) (λ z. omega (arith, sym set ∙ z)) ∙ set in
+    first-here _ (c .before .before .before .before .before .args .events) (c .before .before .before .loop .i) (omega arith)
+    (c .before .before .before .loop .inv .1) (λ z. omega (arith, sym set ∙ z)) ∙ set in
     rw first
 
 event-if-requires : tie.Need-event-if-requires Inv-loop μ-loop
@@ -61,13 +63,15 @@ event-if-requires c κs = omega arith
 
 -- the sets with the event of a turn
 controls : (c : tie.After-event-if Inv-loop μ-loop)
-    → c .before .before .before .before .loop .controllable + c .event-if .result ≡ setOf (c .before .before .before .before .loop .i + 1) (isControllableIn (c .before .before .before .before .before .before .args .image .now))
+    → c .before .before .before .before .loop .controllable + c .event-if .result ≡ setOf (c .before .before .before .before .loop .i + 1)
+    (isControllableIn (c .before .before .before .before .before .before .args .image .now))
 controls c =
     grown _ (c .before .before .before .before .loop .i) _ _ (c .before .before .before .before .loop .inv .2) (c .event-if .ensures)
     (ap (λ (w : ℕ). eqb (w / 2 ^ 7 % 2) 1) (c .before .before .word .ensures) ∙ class-controllable _ _)
 
 causes : (c : tie.After-event-if2 Inv-loop μ-loop)
-    → c .before .before .before .before .before .loop .causable + c .event-if2 .result ≡ setOf (c .before .before .before .before .before .loop .i + 1) (isCausableIn (c .before .before .before .before .before .before .before .args .image .now))
+    → c .before .before .before .before .before .loop .causable + c .event-if2 .result ≡ setOf (c .before .before .before .before .before .loop .i + 1)
+    (isCausableIn (c .before .before .before .before .before .before .before .args .image .now))
 causes c =
     grown _ (c .before .before .before .before .before .loop .i) _ _ (c .before .before .before .before .before .loop .inv .3) (c .event-if2 .ensures)
     (ap (λ (w : ℕ). eqb (w / 2 ^ 6 % 2) 1) (c .before .before .before .word .ensures) ∙ class-causable _ _)
@@ -90,7 +94,8 @@ loop-less c = omega arith
 loop-again : tie.Need-loop-again Inv-loop μ-loop
 loop-again c = (
   omega arith,
-  first-more _ _ (c .before .before .before .before .before .loop .inv .1) (rw (eq-eqb _ 0 (sym (spare (c .before .before .before)) ∙ c .before .before .if1 .left))),
+  first-more _ _ (c .before .before .before .before .before .loop .inv .1)
+      (rw (eq-eqb _ 0 (sym (spare (c .before .before .before)) ∙ c .before .before .if1 .left))),
   controls (c .before),
   causes c,
 )

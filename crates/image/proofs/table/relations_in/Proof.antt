@@ -16,8 +16,8 @@ use Rattle.rules.specs.Judge.{relationNumber}
 use Rattle.rules.specs.Image.{relationAt, relationBit, relationSpare, relationImageNumber}
 use Rattle.rules.specs.Laws.Counting.{filled-none, filled-more}
 use Rattle.rules.specs.Laws.Numbers.{first-none, first-more, first-here}
-use Rattle.image.specs.Words.{relationOfWord}
-use Rattle.image.specs.Laws.Words.{relation-parts}
+use Rattle.image.specs.Packed.{relationOfWord}
+use Rattle.image.specs.Laws.Packed.{relation-parts}
 use Rattle.image.specs.Laws.Parts.{relation-spare}
 use Rattle.image.proofs.table.relations_in.Statement.{statement}
 use Rattle.image.proofs.table.relations_in.Tie as tie
@@ -64,27 +64,33 @@ refused-requires-2 c κs = search needs
 
 -- the spare bits of the relation that a turn reads, the relation, and its number
 spare : (c : tie.After-word Inv-loop μ-loop)
-    → c .word .result % 4 ≡ relationSpare (c .before .before .before .before .before .before .args .image .now) (relationBit (c .before .before .before .before .before .before .args .events) (c .before .before .loop .i))
+    → c .word .result % 4 ≡ relationSpare (c .before .before .before .before .before .before .args .image .now)
+    (relationBit (c .before .before .before .before .before .before .args .events) (c .before .before .loop .i))
 spare c = ap (λ (w : ℕ). w % 4) (c .word .ensures) ∙ relation-spare _ _
 
 read : (c : tie.After-relation-of Inv-loop μ-loop)
-    → c .relation-of .result ≡ relationIn (c .before .before .before .before .before .before .before .before .args .image .now) (c .before .before .before .before .before .before .before .before .args .events) (c .before .before .before .before .loop .i)
+    → c .relation-of .result ≡ relationIn (c .before .before .before .before .before .before .before .before .args .image .now)
+    (c .before .before .before .before .before .before .before .before .args .events) (c .before .before .before .before .loop .i)
 read c = c .relation-of .ensures ∙ ap relationOfWord (c .before .before .word .ensures) ∙ relation-parts _ _
 
 number : (c : tie.After-relation-number Inv-loop μ-loop)
-    → c .relation-number .result ≡ numberIn (c .before .before .before .before .before .before .before .before .before .args .image .now) (c .before .before .before .before .before .before .before .before .before .args .events) (c .before .before .before .before .before .loop .i)
+    → c .relation-number .result ≡ numberIn (c .before .before .before .before .before .before .before .before .before .args .image .now)
+    (c .before .before .before .before .before .before .before .before .before .args .events) (c .before .before .before .before .before .loop .i)
 unfolding relationImageNumber
 number c =
     rw (eq-eqb _ 0 (sym (spare (c .before .before .before)) ∙ c .before .before .if1 .left))
-    (c .relation-number .ensures ∙ ap (relationNumber (c .before .before .before .before .before .before .before .before .before .args .events)) (read (c .before)))
+    (c .relation-number .ensures
+    ∙ ap (relationNumber (c .before .before .before .before .before .before .before .before .before .args .events)) (read (c .before)))
 
 returns : tie.Need-returns Inv-loop μ-loop
 unfolding relationImageNumber
 returns c =
-    let set : numberIn (c .before .before .before .before .before .before .before .before .args .image .now) (c .before .before .before .before .before .before .before .before .args .events) (c .before .before .before .before .loop .i) ≡ 2 =
+    let set : numberIn (c .before .before .before .before .before .before .before .before .args .image .now)
+    (c .before .before .before .before .before .before .before .before .args .events) (c .before .before .before .before .loop .i) ≡ 2 =
     rw (ne-eqb _ 0 (λ z. c .before .if1 .taken (spare (c .before .before) ∙ z))) in
     let first =
-    first-here _ (c .before .before .before .before .before .before .before .before .args .count) (c .before .before .before .before .loop .i) (omega arith) (c .before .before .before .before .loop .inv .2) (λ z. omega (arith, sym set ∙ z)) ∙ set in
+    first-here _ (c .before .before .before .before .before .before .before .before .args .count) (c .before .before .before .before .loop .i) (omega arith)
+    (c .before .before .before .before .loop .inv .2) (λ z. omega (arith, sym set ∙ z)) ∙ set in
     c .refused2 .ensures ∙ rw first
 
 relation-of-requires : tie.Need-relation-of-requires Inv-loop μ-loop
@@ -100,7 +106,9 @@ returns-2 : tie.Need-returns-2 Inv-loop μ-loop
 returns-2 c =
     let here = number (c .before .before) in
     let first =
-    first-here _ (c .before .before .before .before .before .before .before .before .before .before .before .args .count) (c .before .before .before .before .before .before .before .loop .i) (omega arith) (c .before .before .before .before .before .before .before .loop .inv .2) (λ z. c .before .if2 .taken (here ∙ z))
+    first-here _ (c .before .before .before .before .before .before .before .before .before .before .before .args .count)
+    (c .before .before .before .before .before .before .before .loop .i) (omega arith)
+    (c .before .before .before .before .before .before .before .loop .inv .2) (λ z. c .before .if2 .taken (here ∙ z))
     ∙ sym here in
     c .refused3 .ensures ∙ rw (first, ne-eqb _ _ (c .before .if2 .taken))
 
@@ -121,7 +129,8 @@ loop-again c =
     let i = c .before .before .before .before .before .before .loop .i in (
       omega arith,
       rw (c .before .before .before .before .before .before .loop .inv .1, read (c .before .before))
-          (filled-more (relationIn (c .before .before .before .before .before .before .before .before .before .before .args .image .now) (c .before .before .before .before .before .before .before .before .before .before .args .events)) emptyRelation mostRelations i (omega arith)),
+          (filled-more (relationIn (c .before .before .before .before .before .before .before .before .before .before .args .image .now)
+          (c .before .before .before .before .before .before .before .before .before .before .args .events)) emptyRelation mostRelations i (omega arith)),
       first-more _ i (c .before .before .before .before .before .before .loop .inv .2) (sym (number (c .before)) ∙ c .if2 .left),
     )
 

@@ -67,7 +67,12 @@ returns-3 : tie.Need-returns-3 Inv-loop μ-loop
 unfolding fresh
 returns-3 c =
     let e : c .before .loop .i ≡ c .before .before .before .before .before .before .args .events = omega arith in
-    simp (le-leb _ _ (c .before .before .before .before .before .if1 .left), le-leb _ _ (c .before .before .before .before .if2 .left), c .before .loop .inv .2, e)
+    simp (
+      le-leb _ _ (c .before .before .before .before .before .if1 .left),
+      le-leb _ _ (c .before .before .before .before .if2 .left),
+      c .before .loop .inv .2,
+      e,
+    )
 
 pub fresh-spec : {M : Type 1} → statement M
 fresh-spec =

@@ -1,6 +1,0 @@
--- What the promises rest on.
-pub mod Images
-pub mod Kept
-pub mod Answered
-pub mod Guarded
-pub mod Offered

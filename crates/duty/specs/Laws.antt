@@ -1,0 +1,8 @@
+-- What the promises rest on.
+pub mod Images
+pub mod Kept
+pub mod ReadBack
+pub mod Answered
+pub mod Guarded
+pub mod Offered
+pub mod Recorded

@@ -1,0 +1,193 @@
+//! One event's record from the images, worked by hand, and its refusals.
+
+use crate::shop::*;
+use second::generate;
+use second::rng::Rng;
+use second::*;
+
+/// What stands in lent places before a call.
+const LENT: u32 = 0xDEAD_BEEF;
+
+/// The six fields, from a call that is done.
+fn fields(table: &[u8], marking: &[u8], event: usize) -> [u32; 6] {
+    let mut fields = [LENT; 6];
+    assert_eq!(record(table, marking, event, &mut fields), 0);
+    fields
+}
+
+/// The call is refused with this number and writes nothing, however many
+/// places it is lent.
+fn refused(table: &[u8], marking: &[u8], event: usize, number: u8) {
+    for places in [0, 1, 5, 6, 7, 20] {
+        let mut fields = vec![LENT; places];
+        assert_eq!(record(table, marking, event, &mut fields), number);
+        assert_eq!(fields, vec![LENT; places]);
+    }
+}
+
+fn events_alone(events: usize) -> Vec<u8> {
+    table_image(&vec![CONTROLLED; events], &[])
+}
+
+#[test]
+fn the_hex_records_of_the_shop() {
+    // 80 00 00 03 is 1, then 30 bits worth 1, then 1; C0 00 00 00 is 1, 1 and
+    // 30 bits of 0.
+    let table = [4, 1, 0, 0, 0x40, 0x80, 0x40, 1, 0, 0, 0, 4];
+    let before = [0, 0, 0, 1, 0xC0, 0, 0, 0, 0, 0, 0, 0, 0, 0, 0, 0];
+    let after = [0x80, 0, 0, 3, 0xC0, 0, 0, 0, 0, 0, 0, 0, 0, 0, 0, 0];
+    assert_eq!(fields(&table, &before, 0), [0, 0, 1, 1, 1, 0]);
+    assert_eq!(fields(&table, &before, 1), [0; 6]);
+    assert_eq!(fields(&table, &after, 0), [1, 1, 1, 1, 1, 0]);
+    assert_eq!(fields(&table, &after, 1), [0; 6]);
+}
+
+#[test]
+fn each_field_alone() {
+    let table = events_alone(1);
+    for (image, expected) in [
+        ([0x80, 0, 0, 0, 0, 0, 0, 0], [1, 0, 0, 0, 0, 0]),
+        ([0x80, 0, 0, 2, 0, 0, 0, 0], [1, 1, 0, 0, 0, 0]),
+        ([0, 0, 0, 1, 0, 0, 0, 0], [0, 0, 1, 0, 0, 0]),
+        ([0, 0, 0, 0, 0x80, 0, 0, 0], [0, 0, 0, 1, 0, 0]),
+        ([0, 0, 0, 0, 0xC0, 0, 0, 0], [0, 0, 0, 1, 1, 0]),
+        ([0, 0, 0, 0, 0xC0, 0, 0, 1], [0, 0, 0, 1, 1, 1]),
+    ] {
+        assert_eq!(fields(&table, &image, 0), expected);
+    }
+}
+
+#[test]
+fn the_limit_is_read_in_full() {
+    // 1,000,000,000 is 3B 9A CA 00. As an age it stands one bit to the left
+    // (77 35 94 00) with happened before it; as a deadline pending and bounded
+    // go before it.
+    let image = [0xF7, 0x35, 0x94, 0x01, 0xFB, 0x9A, 0xCA, 0x00];
+    let expected = [1, LIMIT, 1, 1, 1, LIMIT];
+    assert_eq!(fields(&events_alone(1), &image, 0), expected);
+}
+
+#[test]
+fn p_with_flush_due() {
+    let table = table_image(&P_CLASSES, &p_relations());
+    for_p(|p| {
+        let image = marking_image(&p_flush_due(p));
+        for (event, expected) in [
+            (LEAK, [1, 3, 1, 0, 0, 0]),
+            (FLUSH, [0, 0, 1, 1, 1, 0]),
+            (ISOLATE, [0, 0, 1, 0, 0, 0]),
+            (STANDBY, [0, 0, 1, 0, 0, 0]),
+            (DRAIN, [0, 0, 1, 1, 0, 0]),
+        ] {
+            assert_eq!(fields(&table, &image, event), expected, "event {event}");
+        }
+    });
+}
+
+#[test]
+fn later_places_stay() {
+    let table = events_alone(2);
+    let image = marking_image(&marking(&[happened(9), pending(7)]));
+    for places in [6, 7, 20] {
+        let mut fields = vec![LENT; places];
+        assert_eq!(record(&table, &image, 1, &mut fields), 0);
+        assert_eq!(fields[..6], [0, 0, 1, 1, 1, 7]);
+        assert_eq!(fields[6..], vec![LENT; places - 6]);
+    }
+}
+
+#[test]
+fn the_last_of_64_events() {
+    let table = events_alone(64);
+    let mut now = fresh_marking(64);
+    now.records[63] = happened(5);
+    let image = marking_image(&now);
+    assert_eq!(fields(&table, &image, 62), [0, 0, 1, 0, 0, 0]);
+    assert_eq!(fields(&table, &image, 63), [1, 5, 1, 0, 0, 0]);
+    refused(&table, &image, 64, 8);
+}
+
+#[test]
+fn the_table_is_refused_as_its_reader_refuses_it() {
+    let wrong_kind = Relation {
+        kind: 6,
+        ..includes(0, 0)
+    };
+    let wrong_time = Relation {
+        time: 1,
+        ..includes(0, 0)
+    };
+    for (table, number) in [
+        (vec![], 1),
+        (events_alone(1)[..4].to_vec(), 1),
+        (vec![2, 0, 0, 1, 0], 2),
+        (header(0, 0).to_vec(), 3),
+        (events_alone(65), 3),
+        (table_image(&[CONTROLLED], &[wrong_kind]), 4),
+        (table_image(&[CONTROLLED], &[includes(0, 1)]), 5),
+        (table_image(&[CONTROLLED], &[wrong_time]), 6),
+    ] {
+        assert_eq!(read_table(&table).number, number);
+        // Whatever else is wrong: the marking's length or record, the event.
+        for marking in [&[0; 8][..], &[255; 8], &[0; 7], &[]] {
+            for event in [0, 1, usize::MAX] {
+                refused(&table, marking, event, number);
+            }
+        }
+    }
+}
+
+#[test]
+fn then_the_marking_as_its_reader_refuses_it() {
+    let table = events_alone(2);
+    for event in [0, 1, 2, usize::MAX] {
+        for length in [0, 8, 15, 17, 24] {
+            refused(&table, &vec![255; length], event, 1);
+        }
+        // A fault in any record, not only in the one asked about.
+        for wrong in [0, 1] {
+            let mut image = [0; 16];
+            image[8 * wrong + 3] = 2;
+            refused(&table, &image, event, 7);
+        }
+    }
+}
+
+#[test]
+fn then_8_and_last_14() {
+    let table = events_alone(2);
+    let image = marking_image(&fresh_marking(2));
+    for missing in [2, 3, 63, 64, 256, usize::MAX] {
+        refused(&table, &image, missing, 8);
+    }
+    for places in 0..6 {
+        let mut fields = vec![LENT; places];
+        assert_eq!(record(&table, &image, 1, &mut fields), 14);
+        assert_eq!(fields, vec![LENT; places]);
+    }
+}
+
+#[test]
+fn every_record_of_a_drawn_marking() {
+    let mut rng = Rng::new(14);
+    for _ in 0..200 {
+        let pair = generate::sound_pair(&mut rng);
+        let table = generate::table_image(&pair.table);
+        let image = marking_image(&pair.marking);
+        for (event, bytes) in image.chunks(8).enumerate() {
+            let value = u64::from_be_bytes(bytes.try_into().unwrap());
+            let width = 1_073_741_824;
+            let expected = [
+                value / 2u64.pow(63),
+                value / 2u64.pow(33) % width,
+                value / 2u64.pow(32) % 2,
+                value / 2u64.pow(31) % 2,
+                value / 2u64.pow(30) % 2,
+                value % width,
+            ];
+            let fields = fields(&table, &image, event).map(u64::from);
+            assert_eq!(fields, expected);
+        }
+        refused(&table, &image, pair.marking.events, 8);
+    }
+}
