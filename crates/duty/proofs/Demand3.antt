@@ -6,7 +6,7 @@ use mathlib.Core.Bool.{Bool, true, false, cond}
 use mathlib.Core.List.{List, [], _∷_, _++_}
 use Prim.Native.Nat.{ℕ}
 use native.Mathlib.Omega.{arith}
-use lib.Dec.{eqb, ltb}
+use lib.Dec.{eqb}
 use lib.ListN.{length, take, drop}
 use lib.Seq.{take-at, drop-at}
 use borrow.Author.Tests.{eqb-true, le-ltb}
@@ -14,17 +14,15 @@ use Rattle.rules.specs.declared.Table.{Table}
 use Rattle.rules.specs.declared.Marking.{Marking}
 use Rattle.rules.specs.declared.Step.{Step}
 use Rattle.rules.specs.declared.MarkingAnswer.{MarkingAnswer}
-use Rattle.rules.specs.declared.CheckAnswer.{CheckAnswer}
 use Rattle.rules.specs.declared.ToldCheck.{ToldCheck}
-use Rattle.rules.specs.declared.CheckAnswer.the-variants.{Accepts, Rejects}
-use Rattle.rules.specs.Counting.{lowest}
+use Rattle.rules.specs.declared.CheckAnswer.the-variants.{Accepts}
 use Rattle.rules.specs.Numbers.{_else_, done, checkNumber}
 use Rattle.rules.specs.Judge.{judged}
 use Rattle.rules.specs.Image.{markingImage}
 use Rattle.rules.specs.Ask.{requestNumber, request, reportNumber, report}
 use Rattle.rules.specs.Effect.{effect}
 use Rattle.rules.specs.Time.{time, plainTickNumber, plainTick}
-use Rattle.rules.specs.Check.{reason, verdict, check, toldCheck}
+use Rattle.rules.specs.Check.{check, toldCheck}
 use Rattle.rules.specs.Guard.{caused, guarded, guardedTick}
 use Rattle.rules.specs.Remedy.{effects}
 use Rattle.rules.specs.Trace.{guardedTickKind, endOf, stepsIn, bytesNumber, runBytes, runBytesAnswers}
@@ -34,6 +32,7 @@ use Rattle.rules.specs.Calls.{step, Calls, Caused}
 use Rattle.rules.specs.Calls.{none as engine-none, requested as engine-requested, reported as engine-reported, ticked as engine-ticked}
 use Rattle.rules.specs.Calls.{guardedly as engine-guardedly, ran-bytes as engine-ran, actsIn as engineActs, listed as engineListed}
 use Rattle.rules.specs.Calls.{Answered as EngineAnswered}
+use Rattle.rules.specs.Laws.Check.{verdict-done}
 use Rattle.rules.specs.Laws.InNumbers.{check-in-numbers}
 use Rattle.rules.specs.Laws.Numbers.{both-done, else-done}
 use Rattle.rules.specs.Laws.Taken.{caused-length, guarded-is}
@@ -50,19 +49,6 @@ use Rattle.duty.proofs.Chained.{Request, Report, PlainTick, Check, Guar
 use Rattle.duty.proofs.Chained.{Chained, none, requested, reported, ticked, guardedly, ran, actsIn, Answered}
 
 -- a check without a number accepts
-reason-done : (number n : ℕ) (applies : ℕ → Bool) (next : CheckAnswer) → (checkNumber next ≡ 0 → next ≡ Accepts)
-    → checkNumber (reason number n applies next) ≡ 0 → reason number n applies next ≡ Accepts
-reason-done number n applies next then h = go (ltb (lowest n applies) n) h
-  where
-    go : (b : Bool) → checkNumber (cond b (Rejects number (lowest n applies)) next) ≡ 0 → cond b (Rejects number (lowest n applies)) next ≡ Accepts
-    go true p = absurd (omega (arith, p))
-    go false p = then p
-
-verdict-done : (t : Table) (m : Marking) → checkNumber (verdict t m) ≡ 0 → verdict t m ≡ Accepts
-unfolding verdict
-verdict-done t m =
-    reason-done 1 _ _ _ (reason-done 2 _ _ _ (reason-done 3 _ _ _ (reason-done 4 _ _ _ (reason-done 5 _ _ _ (reason-done 6 _ _ _ (λ h. refl))))))
-
 accepts : (t : Table) (m : Marking) → judged t m ≡ 0 → checkNumber (check t m) ≡ 0 → check t m ≡ Accepts
 unfolding check
 accepts t m done h = check-accepts t m done (verdict-done t m (rw done at h))

@@ -16,6 +16,7 @@ pub mod Margin
 pub mod HoldUp
 pub mod Widened
 pub mod Closure
+pub mod Check
 pub mod InNumbers
 pub mod HoldsBack
 pub mod Needed

@@ -27,7 +27,7 @@ use Rattle.rules.specs.Demand3.Accepts.{check-parts, check-accepts}
 use Rattle.rules.specs.Demand3.Statements.{still-accepts as accepts-on}
 use Rattle.engine.specs.declared.trace.Running.{Running}
 use Rattle.engine.specs.Running.{begunRun, furtherRun, Fit}
-use Rattle.duties.specs.Laws.Checked.{verdict-done}
+use Rattle.rules.specs.Laws.Check.{verdict-done}
 
 -- What holds between two steps is kept. Judged values stay judged; a guarded tick that is done shows that the check accepts, and from there
 -- it accepts whatever the steps are (demand 3).
