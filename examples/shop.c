@@ -1,6 +1,6 @@
 /*
  * The shop example P of docs/RULES.md, from C: a leak asks for a flush within three minutes, the flush waits for the isolating valve, and when
- * the duty is due the engine itself isolates, drains and flushes.
+ * the duty is due the engine itself isolates, drains and flushes. The table is built from plain numbers, and shown in its bytes.
  */
 #include "duty.h"
 #include "shop.h"
@@ -8,6 +8,24 @@
 
 static const char *const names[EVENTS] = {"leak", "flush", "isolate", "standby", "drain"};
 
+enum { UNBOUNDED = 0, BOUNDED = 1, REMEDY = DUTY_CONTROLLABLE | DUTY_CAUSABLE };
+
+/* flush, isolate and drain are controllable and causable; a leak and a standby are reported */
+static const uint8_t classes[EVENTS] = {[FLUSH] = REMEDY, [ISOLATE] = REMEDY, [DRAIN] = REMEDY};
+
+/* for each relation: kind, left, right, bounded, time */
+static const uint32_t relations[] = {
+    DUTY_RESPONSE,  LEAK,    FLUSH,   BOUNDED,   3, /* 0: leak response flush, within 3 */
+    DUTY_CONDITION, FLUSH,   ISOLATE, BOUNDED,   0, /* 1: flush condition isolate */
+    DUTY_INCLUSION, LEAK,    FLUSH,   UNBOUNDED, 0, /* 2: leak includes flush */
+    DUTY_EXCLUSION, STANDBY, FLUSH,   UNBOUNDED, 0, /* 3: standby excludes flush */
+    DUTY_MILESTONE, FLUSH,   DRAIN,   UNBOUNDED, 0, /* 4: flush milestone drain */
+    DUTY_RESPONSE,  LEAK,    DRAIN,   UNBOUNDED, 0, /* 5: leak response drain, eventually */
+};
+
+enum { NUMBERS = sizeof relations / sizeof relations[0], RELATIONS = NUMBERS / DUTY_NUMBERS };
+
+static uint8_t table[DUTY_HEADER_BYTES + EVENTS + DUTY_RELATION_BYTES * RELATIONS];
 static uint8_t marking[DUTY_RECORD_BYTES * EVENTS];
 
 static void say(const char *what, uint8_t number)
@@ -18,11 +36,19 @@ static void say(const char *what, uint8_t number)
         printf("%s: refused with %d\n", what, number);
 }
 
+static void say_table(void)
+{
+    printf(" ");
+    for (size_t i = 0; i < sizeof table; i++)
+        printf(" %02x", table[i]);
+    printf("\n");
+}
+
 static void say_hold_up(size_t event)
 {
     uint8_t kind = 0;
     size_t relation = 0;
-    if (duty_hold_up(shop_table, sizeof shop_table, marking, sizeof marking, event, &kind, &relation) != DUTY_DONE)
+    if (duty_hold_up(table, sizeof table, marking, sizeof marking, event, &kind, &relation) != DUTY_DONE)
         return;
     if (kind == DUTY_BLOCKED)
         printf("  %s is held up by relation %zu\n", names[event], relation);
@@ -34,7 +60,7 @@ static void guarded_tick(void)
 {
     uint8_t caused[EVENTS] = {0}, reason = 0;
     size_t count = 0, place = 0;
-    uint8_t number = duty_guarded_tick(shop_table, sizeof shop_table, marking, sizeof marking, caused, sizeof caused, &count, &reason, &place);
+    uint8_t number = duty_guarded_tick(table, sizeof table, marking, sizeof marking, caused, sizeof caused, &count, &reason, &place);
     say("guarded tick", number);
     if (number == DUTY_REJECTED)
         printf("  the check rejects: reason %d at %zu\n", reason, place);
@@ -44,23 +70,25 @@ static void guarded_tick(void)
 
 int main(void)
 {
+    say("table", duty_write_table(EVENTS, classes, sizeof classes, relations, NUMBERS, table, sizeof table));
+    say_table();
     say("fresh marking", duty_fresh(EVENTS, marking, sizeof marking));
     marking[DUTY_RECORD_BYTES * FLUSH + INCLUDED_BYTE] = 0;
-    say("judged", duty_judge(shop_table, sizeof shop_table, marking, sizeof marking));
+    say("judged", duty_judge(table, sizeof table, marking, sizeof marking));
 
-    say("report leak", duty_report(shop_table, sizeof shop_table, marking, sizeof marking, LEAK));
-    say("request flush", duty_request(shop_table, sizeof shop_table, marking, sizeof marking, FLUSH));
+    say("report leak", duty_report(table, sizeof table, marking, sizeof marking, LEAK));
+    say("request flush", duty_request(table, sizeof table, marking, sizeof marking, FLUSH));
     say_hold_up(FLUSH);
 
     for (int minute = 0; minute < 3; minute++)
         guarded_tick();
-    say("plain tick", duty_plain_tick(shop_table, sizeof shop_table, marking, sizeof marking));
+    say("plain tick", duty_plain_tick(table, sizeof table, marking, sizeof marking));
 
     static const uint8_t preferred[] = {FLUSH, ISOLATE, DRAIN}, fallback[] = {DRAIN, ISOLATE, FLUSH, ISOLATE};
     uint8_t list = 0;
     size_t length = 0;
     say("offered remedies",
-        duty_remedies(shop_table, sizeof shop_table, marking, sizeof marking, preferred, sizeof preferred, fallback, sizeof fallback, &list, &length));
+        duty_remedies(table, sizeof table, marking, sizeof marking, preferred, sizeof preferred, fallback, sizeof fallback, &list, &length));
     printf("  the first %zu of the %s list\n", length, list == DUTY_PREFERRED ? "preferred" : "fallback");
 
     guarded_tick();

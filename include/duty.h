@@ -35,7 +35,8 @@
  *
  * Answers. A function returns 0 for done, or the number of the refusal. The numbers are tried in this order: the table's (1 under 4 bytes;
  * 2 and 3 of the header; 1; 2 of the classes; then for each relation 2, 4, 5, 6), the marking's (1, then 7), then those named with the
- * function, in the order named.
+ * function, in the order named. Of an image that a function is not handed there is nothing to try: duty_relation and duty_class give the
+ * table's numbers and then their own, duty_write_table and duty_fresh their own alone.
  *
  * A refusal writes nothing at all; a call that is done writes what is said and no byte past it. The one exception: 12 has a reason and a
  * place, and writes those two. An acting function (request, report, ticks, run) that is done puts the new marking's image where the old one
@@ -43,10 +44,11 @@
  *
  * Stack. Bytes that a call takes at most on x86-64, its callers and what they lend not counted, nor memcpy and memset of the C library. They
  * are measured, of the compiled library, and not proved: docs/BENCH.md, 'Stack', says how. There is no recursion and no heap.
- *     duty_guarded_tick 31,168    duty_run 30,624         duty_check 27,696         duty_closure 26,256
- *     duty_request 24,112         duty_report 24,112      duty_plain_tick 24,112    duty_margin 24,032
- *     duty_enabled 21,952         duty_hold_up 21,952     duty_due 20,912           duty_record 19,072
- *     duty_remedies 18,336        duty_judge 18,272       duty_fresh 3,184          duty_size, duty_lowest 8
+ *     duty_guarded_tick 29,920    duty_run 29,376         duty_check 26,448         duty_closure 25,008
+ *     duty_request 22,864         duty_report 22,864      duty_plain_tick 22,864    duty_margin 22,784
+ *     duty_enabled 20,704         duty_hold_up 20,704     duty_due 19,664           duty_record 17,824
+ *     duty_remedies 17,680        duty_judge 17,024       duty_relation 12,560      duty_class 10,464
+ *     duty_write_table 4,448      duty_fresh 3,184        duty_size, duty_lowest 8
  */
 #ifndef DUTY_H
 #define DUTY_H
@@ -59,7 +61,7 @@ extern "C" {
 #endif
 
 /* It grows by one wherever a function, a number or an image is changed, so that code written for another one can refuse to compile. */
-#define DUTY_VERSION 1
+#define DUTY_VERSION 2
 
 /* A compiler that knows these words warns where a null pointer, or an overlap with what is written, can be seen. */
 #if defined(__GNUC__)
@@ -73,7 +75,7 @@ extern "C" {
 /* The numbers given for refusal. */
 enum duty_number {
     DUTY_DONE = 0,
-    DUTY_LENGTH = 1,        /* an image's length is wrong, or the steps end in an odd byte */
+    DUTY_LENGTH = 1,        /* an image's length is wrong, or that of a table's numbers, or the steps end in an odd byte */
     DUTY_SPARE = 2,         /* a spare bit is set */
     DUTY_COUNTS = 3,        /* events 0 or above 64, or relations above 256 */
     DUTY_KIND = 4,          /* a relation's kind is not 1 to 5 */
@@ -98,6 +100,15 @@ enum duty_kind {
     DUTY_EXCLUSION = 4,     /* left excludes right */
     DUTY_MILESTONE = 5      /* left waits while right is pending */
 };
+
+/* The bits of a class byte: both, one or neither. */
+enum duty_class_bit {
+    DUTY_CONTROLLABLE = 0x80,   /* it is requested; without this it is reported */
+    DUTY_CAUSABLE = 0x40        /* a guarded tick or an offered remedy may execute it */
+};
+
+/* A relation in plain numbers: which stands at which place, and how many there are. Bounded is 0 or 1. */
+enum duty_place { DUTY_AT_KIND = 0, DUTY_AT_LEFT = 1, DUTY_AT_RIGHT = 2, DUTY_AT_BOUNDED = 3, DUTY_AT_TIME = 4, DUTY_NUMBERS = 5 };
 
 /* The kinds of step in a trace: the first byte of a step; the second is the event, 0 for a tick. */
 enum duty_step {
@@ -129,6 +140,23 @@ DUTY_CALL uint8_t duty_judge(const uint8_t *table, size_t table_length, const ui
 /* A fresh marking for so many events: not happened, included, not pending. 3 where they are 0 or above 64; 14 where the buffer has fewer than
    8 bytes per event. Done, the first 8 bytes per event are written. */
 DUTY_CALL uint8_t duty_fresh(size_t events, uint8_t *DUTY_ALONE marking, size_t marking_length);
+
+/* A table's image, built from plain numbers: a class byte for each event, and for each relation five numbers, as duty_place has them, one
+   relation behind the other; `relations_length` counts the numbers. Each is judged as it stands: none is cut down to the width of its field.
+   3 where the events are 0 or above 64, or the relations, relations_length / 5, above 256; 1 where the classes are not as many as the events, or
+   the numbers not five to a relation; 2 where another bit of a class byte is set; then for each relation 4, 5, 6, also 6 where bounded is
+   neither 0 nor 1; 14 where the buffer has fewer than 4 + events + 6 * relations bytes. Done, so many are written: the image is exactly so
+   long. */
+DUTY_CALL uint8_t duty_write_table(size_t events, const uint8_t *classes, size_t classes_length, const uint32_t *relations,
+                                   size_t relations_length, uint8_t *DUTY_ALONE table, size_t table_length);
+
+/* A relation of a table, in the five numbers that build it. `numbers` has at least 5 places, of which the first 5 are written. 8, then 14
+   where there are fewer. */
+DUTY_CALL uint8_t duty_relation(const uint8_t *table, size_t table_length, size_t relation, uint32_t *DUTY_ALONE numbers,
+                                size_t numbers_length);
+
+/* The class byte of an event. 8. */
+DUTY_CALL uint8_t duty_class(const uint8_t *table, size_t table_length, size_t event, uint8_t *DUTY_ALONE class_byte);
 
 /* Event sets: event n is the bit worth 2^n. How many events a set holds, and the lowest, 64 for none. These two refuse nothing. */
 DUTY_CALL uint32_t duty_size(uint64_t set);

@@ -4,7 +4,9 @@
  * A question: the call's number 1 byte, the number asked about 8, then four byte strings, each behind its length of 2 bytes: table, marking,
  * a first and a second list. An answer: the number 1 byte, the small out-parameter 1, the large ones 8 and 8, then the marking and the second
  * list as they are afterwards, as long as they came. Numbers are little-endian, and the out-parameters start as bytes 0xEE. The ticks and the
- * size take the first half of a large one; the places of a record's fields are the second list, 4 bytes each.
+ * size take the first half of a large one; the places of a record's fields, or of a relation's numbers, are the second list, 4 bytes each.
+ * A table is written to the second list: asked are the events, the first list is the classes, and in place of the marking come the
+ * relations' numbers, 4 bytes each, bytes behind the last whole one not counted.
  */
 #include "duty.h"
 #include <stdio.h>
@@ -18,11 +20,20 @@ struct list {
 };
 
 static struct list table, marking, first, second;
-static uint32_t fields[LONGEST / 4 + 1];
+static uint32_t numbers[LONGEST / 4 + 1];
 
 static int take(void *bytes, size_t length) { return fread(bytes, 1, length, stdin) == length; }
 
 static void put(const void *bytes, size_t length) { fwrite(bytes, 1, length, stdout); }
+
+/* a list as numbers: how many, and the list again, as the numbers are */
+static size_t unpack(const struct list *l)
+{
+    memcpy(numbers, l->bytes, l->length);
+    return l->length / sizeof numbers[0];
+}
+
+static void pack(struct list *l) { memcpy(l->bytes, numbers, l->length); }
 
 static int take_list(struct list *l)
 {
@@ -47,7 +58,7 @@ int main(void)
             return 1;
         uint8_t number = 0, small = 0xEE;
         uint64_t set;
-        size_t large, count;
+        size_t large, count, places;
         int32_t ticks;
         uint32_t size;
         memset(&set, 0xEE, sizeof set);
@@ -73,10 +84,20 @@ int main(void)
         case 14: number = duty_remedies(TABLE, MARKING, FIRST, SECOND, &small, &large); break;
         case 15: number = duty_run(TABLE, MARKING, FIRST, SECOND); break;
         case 16:
-            memcpy(fields, second.bytes, second.length);
-            number = duty_record(TABLE, MARKING, asked, fields, second.length / sizeof fields[0]);
-            memcpy(second.bytes, fields, second.length);
+            places = unpack(&second);
+            number = duty_record(TABLE, MARKING, asked, numbers, places);
+            pack(&second);
             break;
+        case 17:
+            places = unpack(&marking);
+            number = duty_write_table(asked, FIRST, numbers, places, SECOND);
+            break;
+        case 18:
+            places = unpack(&second);
+            number = duty_relation(TABLE, asked, numbers, places);
+            pack(&second);
+            break;
+        case 19: number = duty_class(TABLE, asked, &small); break;
         default: return 1;
         }
         if (call == 5 || call == 11)

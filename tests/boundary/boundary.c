@@ -6,6 +6,7 @@
 #define _DEFAULT_SOURCE
 #include "duty.h"
 #include "shop.h"
+#include "shop_table.h" /* of ./run: the script beside this file makes it */
 #include <stdio.h>
 #include <stdlib.h>
 #include <string.h>
@@ -142,6 +143,11 @@ static uint8_t record(struct images i, size_t event)
     return duty_record(T(i), M(i), event, (uint32_t *)(void *)i.fields.bytes, i.fields.length / sizeof(uint32_t));
 }
 
+static uint8_t relation(struct images i, size_t k)
+{
+    return duty_relation(T(i), k, (uint32_t *)(void *)i.fields.bytes, i.fields.length / sizeof(uint32_t));
+}
+
 static uint8_t run(struct images i, const void *steps, size_t length)
 {
     struct lent l = lend(steps, length);
@@ -177,6 +183,23 @@ static void all_refused(const void *table, size_t table_length, const void *mark
     CHECK(run(i, steps, sizeof steps) == number);
     open_answers();
     leave(i);
+}
+
+/* A table that cannot be read: the calls that are handed it alone give its number too, before their own. */
+static void table_refused(const void *table, size_t table_length, const void *marking, size_t marking_length, uint8_t number)
+{
+    struct images i = take(table, table_length, marking, marking_length);
+    shut(i.fields);
+    shut_answers();
+    CHECK(relation(i, 0) == number);
+    CHECK(relation(i, SIZE_MAX) == number);
+    CHECK(duty_class(T(i), 0, SMALL) == number);
+    CHECK(duty_class(T(i), SIZE_MAX, SMALL) == number);
+    i.fields.length = 0;
+    CHECK(relation(i, 0) == number);
+    open_answers();
+    leave(i);
+    all_refused(table, table_length, marking, marking_length, number);
 }
 
 /* The shop's start: fresh, flush excluded. */
@@ -378,6 +401,248 @@ static void makes_fresh(void)
     give_back(l);
 }
 
+/* Building a table, and telling it */
+
+/* What a table is built from, and how many bytes there are for it. */
+struct draft {
+    size_t events, classes_length, numbers_length, room;
+    uint8_t classes[DUTY_MOST_EVENTS + 1];
+    uint32_t numbers[DUTY_NUMBERS * (DUTY_MOST_RELATIONS + 1)];
+};
+
+static size_t relations_of(const struct draft *d) { return d->numbers_length / DUTY_NUMBERS; }
+
+static size_t length_of(const struct draft *d) { return DUTY_HEADER_BYTES + d->events + DUTY_RELATION_BYTES * relations_of(d); }
+
+/* So many events and relations, each relation the same, with the room that they take. */
+static void drafted(struct draft *d, size_t events, uint8_t class_byte, size_t relations, const uint32_t *numbers)
+{
+    memset(d, 0, sizeof *d);
+    d->events = d->classes_length = events;
+    d->numbers_length = DUTY_NUMBERS * relations;
+    memset(d->classes, class_byte, events);
+    for (size_t k = 0; k < relations; k++)
+        memcpy(d->numbers + DUTY_NUMBERS * k, numbers, DUTY_NUMBERS * sizeof numbers[0]);
+    d->room = length_of(d);
+}
+
+static uint8_t build(const struct draft *d, struct lent table)
+{
+    struct lent classes = lend(d->classes, d->classes_length), numbers = lend(d->numbers, d->numbers_length * sizeof d->numbers[0]);
+    shut(classes);
+    shut(numbers);
+    uint8_t number = duty_write_table(d->events, classes.bytes, classes.length, (const uint32_t *)(const void *)numbers.bytes, d->numbers_length,
+                                      table.bytes, table.length);
+    give_back(classes);
+    give_back(numbers);
+    return number;
+}
+
+/* The number of what builds no table: with the buffer shut. */
+static uint8_t unbuilt(const struct draft *d)
+{
+    struct lent table = lend(NULL, d->room);
+    shut(table);
+    uint8_t number = build(d, table);
+    give_back(table);
+    return number;
+}
+
+/* What is built tells each number that built it, so the numbers that it tells build it again; a byte behind it stays. */
+static void builds(const struct draft *d, const uint8_t *image)
+{
+    static struct draft told;
+    size_t length = length_of(d);
+    struct lent exact = lend(NULL, length), longer = lend(NULL, length + 1);
+    CHECK(build(d, exact) == DUTY_DONE && memcmp(exact.bytes, image, length) == 0 && kept_before(exact));
+    shut(exact);
+    memcpy(&told, d, sizeof told);
+    memset(told.classes, 0xA5, told.classes_length);
+    memset(told.numbers, 0xA5, told.numbers_length * sizeof told.numbers[0]);
+    uint8_t number = DUTY_DONE;
+    for (size_t e = 0; e < d->events; e++)
+        number |= duty_class(exact.bytes, exact.length, e, told.classes + e);
+    for (size_t k = 0; k < relations_of(d); k++)
+        number |= duty_relation(exact.bytes, exact.length, k, told.numbers + DUTY_NUMBERS * k, DUTY_NUMBERS);
+    CHECK(number == DUTY_DONE && memcmp(&told, d, sizeof told) == 0);
+    CHECK(build(&told, longer) == DUTY_DONE && memcmp(longer.bytes, image, length) == 0);
+    CHECK(longer.bytes[length] == 0xA5 && kept_before(longer));
+    give_back(exact);
+    give_back(longer);
+}
+
+static const uint32_t waits[DUTY_NUMBERS] = {DUTY_CONDITION, 0, 1, 1, 5}, includes[DUTY_NUMBERS] = {DUTY_INCLUSION, 1, 2, 0, 0};
+
+/* The first number where several apply: what is wrong is put right one by one, from the first test on. */
+static void builds_in_order(void)
+{
+    static struct draft d;
+    drafted(&d, 3, 0, 257, waits);
+    d.events = 0;
+    d.classes_length = 4;
+    d.classes[1] = 0x01;
+    d.classes[2] = 0x20;
+    d.numbers[DUTY_AT_KIND] = 257;
+    d.numbers[DUTY_AT_LEFT] = 256;
+    d.numbers[DUTY_AT_RIGHT] = UINT32_MAX;
+    d.numbers[DUTY_AT_BOUNDED] = 2;
+    d.numbers[DUTY_NUMBERS + DUTY_AT_KIND] = 0;
+    d.room = 0;
+    CHECK(unbuilt(&d) == DUTY_COUNTS);
+    d.events = 3; /* 257 relations */
+    CHECK(unbuilt(&d) == DUTY_COUNTS);
+    d.numbers_length--; /* 256 relations and four numbers */
+    CHECK(unbuilt(&d) == DUTY_LENGTH);
+    d.events = 0;
+    CHECK(unbuilt(&d) == DUTY_COUNTS);
+    d.events = 65;
+    CHECK(unbuilt(&d) == DUTY_COUNTS);
+    d.events = SIZE_MAX;
+    CHECK(unbuilt(&d) == DUTY_COUNTS);
+    d.events = 3;
+    d.numbers_length = DUTY_NUMBERS * 2;
+    CHECK(unbuilt(&d) == DUTY_LENGTH); /* of four classes */
+    d.classes_length = 2;
+    CHECK(unbuilt(&d) == DUTY_LENGTH);
+    d.classes_length = 3;
+    d.numbers_length = DUTY_NUMBERS * 2 - 1;
+    CHECK(unbuilt(&d) == DUTY_LENGTH);
+    d.numbers_length = DUTY_NUMBERS * 2 + 1;
+    CHECK(unbuilt(&d) == DUTY_LENGTH);
+    d.numbers_length = DUTY_NUMBERS * 2;
+    CHECK(unbuilt(&d) == DUTY_SPARE);
+    d.classes[1] = DUTY_CONTROLLABLE | DUTY_CAUSABLE;
+    CHECK(unbuilt(&d) == DUTY_SPARE);
+    d.classes[2] = DUTY_CAUSABLE;
+    CHECK(unbuilt(&d) == DUTY_KIND);
+    d.numbers[DUTY_AT_KIND] = DUTY_INCLUSION;
+    CHECK(unbuilt(&d) == DUTY_ENDS);
+    d.numbers[DUTY_AT_LEFT] = 2;
+    CHECK(unbuilt(&d) == DUTY_ENDS);
+    d.numbers[DUTY_AT_RIGHT] = 1;
+    CHECK(unbuilt(&d) == DUTY_TIME);
+    d.numbers[DUTY_AT_BOUNDED] = 0;
+    CHECK(unbuilt(&d) == DUTY_TIME); /* of its time, 5 */
+    d.numbers[DUTY_AT_TIME] = 0;
+    CHECK(unbuilt(&d) == DUTY_KIND); /* of the second relation */
+    d.numbers[DUTY_NUMBERS + DUTY_AT_KIND] = DUTY_CONDITION;
+    CHECK(unbuilt(&d) == DUTY_ROOM);
+    d.room = length_of(&d) - 1;
+    CHECK(unbuilt(&d) == DUTY_ROOM);
+    builds(&d, (const uint8_t *)"\x06\x02\0\0\x00\xC0\x40\x61\x02\0\0\0\0\x20\x03\0\0\0\x14");
+}
+
+/* Each number is judged as it stands: those that are wider than their field, and those that the field holds and no relation may have. */
+static void cuts_nothing_down(void)
+{
+    static const struct {
+        uint32_t place, value, number;
+    } wrong[] = {
+        {DUTY_AT_KIND, 0, DUTY_KIND},
+        {DUTY_AT_KIND, 6, DUTY_KIND},
+        {DUTY_AT_KIND, 8 + DUTY_CONDITION, DUTY_KIND},
+        {DUTY_AT_KIND, 256 + DUTY_CONDITION, DUTY_KIND},
+        {DUTY_AT_KIND, 256 + DUTY_INCLUSION, DUTY_KIND},
+        {DUTY_AT_KIND, UINT32_MAX, DUTY_KIND},
+        {DUTY_AT_LEFT, 3, DUTY_ENDS},
+        {DUTY_AT_LEFT, 64, DUTY_ENDS},
+        {DUTY_AT_LEFT, 256, DUTY_ENDS},
+        {DUTY_AT_LEFT, UINT32_MAX, DUTY_ENDS},
+        {DUTY_AT_RIGHT, 3, DUTY_ENDS},
+        {DUTY_AT_RIGHT, 64, DUTY_ENDS},
+        {DUTY_AT_RIGHT, 256, DUTY_ENDS},
+        {DUTY_AT_RIGHT, UINT32_MAX - 255, DUTY_ENDS},
+        {DUTY_AT_BOUNDED, 2, DUTY_TIME},
+        {DUTY_AT_BOUNDED, 3, DUTY_TIME},
+        {DUTY_AT_BOUNDED, 256, DUTY_TIME},
+        {DUTY_AT_BOUNDED, 257, DUTY_TIME},
+        {DUTY_AT_BOUNDED, UINT32_MAX, DUTY_TIME},
+        {DUTY_AT_TIME, DUTY_LIMIT + 1, DUTY_TIME},
+        {DUTY_AT_TIME, 1u << 30, DUTY_TIME},
+        {DUTY_AT_TIME, (1u << 30) + 5, DUTY_TIME},
+        {DUTY_AT_TIME, 1u << 31, DUTY_TIME},
+        {DUTY_AT_TIME, UINT32_MAX, DUTY_TIME},
+    };
+    static struct draft d;
+    for (size_t i = 0; i < sizeof wrong / sizeof wrong[0]; i++) {
+        drafted(&d, 3, 0, 2, waits);
+        d.numbers[DUTY_NUMBERS + wrong[i].place] = wrong[i].value;
+        CHECK(unbuilt(&d) == wrong[i].number);
+        drafted(&d, 3, 0, 2, includes);
+        d.numbers[DUTY_NUMBERS + wrong[i].place] = wrong[i].value;
+        CHECK(unbuilt(&d) == wrong[i].number);
+    }
+    for (unsigned bit = 1; bit < DUTY_CAUSABLE; bit *= 2) {
+        drafted(&d, 3, 0, 2, waits);
+        d.classes[2] = (uint8_t)(DUTY_CONTROLLABLE | bit);
+        CHECK(unbuilt(&d) == DUTY_SPARE);
+    }
+}
+
+/* The most and the fewest: 64 events and 256 relations, 1 and none. */
+static void builds_at_the_limits(void)
+{
+    static const uint32_t longest[DUTY_NUMBERS] = {DUTY_CONDITION, 63, 63, 1, DUTY_LIMIT};
+    static uint8_t image[DUTY_LONGEST_TABLE];
+    static struct draft d;
+    image[0] = 64 << 1 | 1;
+    memset(image + 4, DUTY_CONTROLLABLE, 64);
+    for (size_t k = 0; k < 256; k++)
+        memcpy(image + 68 + 6 * k, "\x3F\xFF\xEE\x6B\x28\x00", 6);
+    drafted(&d, 64, DUTY_CONTROLLABLE, 256, longest);
+    builds(&d, image);
+    d.room--;
+    CHECK(unbuilt(&d) == DUTY_ROOM);
+    drafted(&d, 64, DUTY_CONTROLLABLE, 257, longest);
+    CHECK(unbuilt(&d) == DUTY_COUNTS);
+
+    drafted(&d, 1, DUTY_CAUSABLE, 0, longest);
+    builds(&d, (const uint8_t *)"\2\0\0\0\x40");
+    d.room--;
+    CHECK(unbuilt(&d) == DUTY_ROOM);
+    d.room = 0;
+    CHECK(unbuilt(&d) == DUTY_ROOM);
+}
+
+/* The shop's table in its numbers. Five places are written and a sixth stays; 8 comes before 14. */
+static void tells_tables(void)
+{
+    static const uint32_t numbers[] = {
+        DUTY_RESPONSE, LEAK, FLUSH, 1, 3, DUTY_CONDITION, FLUSH, ISOLATE, 1, 0, DUTY_INCLUSION, LEAK, FLUSH, 0, 0,
+        DUTY_EXCLUSION, STANDBY, FLUSH, 0, 0, DUTY_MILESTONE, FLUSH, DRAIN, 0, 0, DUTY_RESPONSE, LEAK, DRAIN, 0, 0,
+    };
+    static const uint32_t none[DUTY_NUMBERS];
+    static const uint8_t classes[EVENTS] = {0, 0xC0, 0xC0, 0, 0xC0};
+    static struct draft d;
+    drafted(&d, EVENTS, 0, 6, none);
+    memcpy(d.classes, classes, sizeof classes);
+    memcpy(d.numbers, numbers, sizeof numbers);
+    CHECK(length_of(&d) == sizeof shop_table);
+    builds(&d, shop_table);
+
+    struct images i = shop();
+    uint32_t *places = (uint32_t *)(void *)i.fields.bytes;
+    places[DUTY_NUMBERS] = 9;
+    CHECK(relation(i, 3) == DUTY_DONE && memcmp(places, numbers + 15, 5 * sizeof numbers[0]) == 0 && places[DUTY_NUMBERS] == 9);
+    CHECK(duty_relation(T(i), 0, places + 1, DUTY_NUMBERS) == DUTY_DONE && memcmp(places + 1, numbers, 5 * sizeof numbers[0]) == 0);
+    CHECK(places[0] == DUTY_EXCLUSION && kept_before(i.fields));
+    CHECK(duty_class(T(i), DRAIN, SMALL) == DUTY_DONE && *SMALL == 0xC0 && kept_before(small));
+    CHECK(duty_class(T(i), LEAK, SMALL) == DUTY_DONE && *SMALL == 0);
+    shut(i.fields);
+    shut_answers();
+    CHECK(duty_class(T(i), EVENTS, SMALL) == DUTY_NONE_SUCH);
+    CHECK(duty_class(T(i), SIZE_MAX, SMALL) == DUTY_NONE_SUCH);
+    CHECK(relation(i, 6) == DUTY_NONE_SUCH);
+    CHECK(relation(i, SIZE_MAX) == DUTY_NONE_SUCH);
+    i.fields.length = (DUTY_NUMBERS - 1) * sizeof(uint32_t);
+    CHECK(relation(i, 6) == DUTY_NONE_SUCH);
+    CHECK(relation(i, 5) == DUTY_ROOM);
+    i.fields.length = 0;
+    CHECK(relation(i, 0) == DUTY_ROOM);
+    open_answers();
+    leave(i);
+}
+
 /* What is read and what is not, and the first number where several apply. */
 static void keeps_the_limits(void)
 {
@@ -399,28 +664,28 @@ static void keeps_the_limits(void)
     leave(i);
 
     table[68 + 6 * 255 + 5] = 0x04; /* time 1,000,000,001 */
-    all_refused(table, 4 + 64 + 6 * 256, marking, 8 * 64, DUTY_TIME);
+    table_refused(table, 4 + 64 + 6 * 256, marking, 8 * 64, DUTY_TIME);
     table[1] = 1; /* 257 relations */
-    all_refused(table, 4 + 64 + 6 * 257, marking, 8 * 64, DUTY_COUNTS);
+    table_refused(table, 4 + 64 + 6 * 257, marking, 8 * 64, DUTY_COUNTS);
     table[0] = 65 << 1;
     table[1] = 0;
-    all_refused(table, 4 + 65, marking, 8 * 65, DUTY_COUNTS);
+    table_refused(table, 4 + 65, marking, 8 * 65, DUTY_COUNTS);
     table[0] = 0;
-    all_refused(table, 4, marking, 0, DUTY_COUNTS);
+    table_refused(table, 4, marking, 0, DUTY_COUNTS);
 
     CHECK(duty_fresh(EVENTS, bad_marking, sizeof bad_marking) == DUTY_DONE);
-    all_refused(shop_table, 0, bad_marking, sizeof bad_marking, DUTY_LENGTH);
-    all_refused(shop_table, 3, bad_marking, sizeof bad_marking, DUTY_LENGTH);
-    all_refused(shop_table, sizeof shop_table - 1, bad_marking, sizeof bad_marking, DUTY_LENGTH);
+    table_refused(shop_table, 0, bad_marking, sizeof bad_marking, DUTY_LENGTH);
+    table_refused(shop_table, 3, bad_marking, sizeof bad_marking, DUTY_LENGTH);
+    table_refused(shop_table, sizeof shop_table - 1, bad_marking, sizeof bad_marking, DUTY_LENGTH);
     all_refused(shop_table, sizeof shop_table, bad_marking, 0, DUTY_LENGTH);
     all_refused(shop_table, sizeof shop_table, bad_marking, sizeof bad_marking - 1, DUTY_LENGTH);
     bad_marking[7] = 1; /* a deadline without a bound */
     all_refused(shop_table, sizeof shop_table, bad_marking, sizeof bad_marking, DUTY_RECORD);
     memcpy(bad_table, shop_table, sizeof bad_table);
     bad_table[9] = 0xE0; /* kind 7 */
-    all_refused(bad_table, sizeof bad_table, bad_marking, sizeof bad_marking, DUTY_KIND);
+    table_refused(bad_table, sizeof bad_table, bad_marking, sizeof bad_marking, DUTY_KIND);
     bad_table[3] = 1; /* a spare bit of the header */
-    all_refused(bad_table, sizeof bad_table, bad_marking, 0, DUTY_SPARE);
+    table_refused(bad_table, sizeof bad_table, bad_marking, 0, DUTY_SPARE);
 }
 
 /* What is only read may overlap: the marking lies within the table's own memory. */
@@ -457,6 +722,10 @@ int main(void)
     runs();
     answers_the_hex_case();
     makes_fresh();
+    builds_in_order();
+    cuts_nothing_down();
+    builds_at_the_limits();
+    tells_tables();
     keeps_the_limits();
     reads_overlapping();
     counts_sets();

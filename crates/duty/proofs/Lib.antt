@@ -1,5 +1,4 @@
--- What the proofs of several functions use, and that each promise leaves one answer.
-pub mod Bit
+-- That each promise leaves one answer, and demand 3 for a caller from C.
 pub mod Once
 pub mod Chained
 pub mod Demand3

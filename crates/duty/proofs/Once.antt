@@ -8,6 +8,12 @@ use Rattle.duty.proofs.duty_judge.Kinds as judge-kinds
 use Rattle.duty.proofs.duty_judge.Reads as judge
 use Rattle.duty.proofs.duty_fresh.Kinds as fresh-kinds
 use Rattle.duty.proofs.duty_fresh.Reads as fresh
+use Rattle.duty.proofs.duty_write_table.Kinds as write-table-kinds
+use Rattle.duty.proofs.duty_write_table.Reads as write-table
+use Rattle.duty.proofs.duty_relation.Kinds as relation-kinds
+use Rattle.duty.proofs.duty_relation.Reads as relation
+use Rattle.duty.proofs.duty_class.Kinds as class-kinds
+use Rattle.duty.proofs.duty_class.Reads as class
 use Rattle.duty.proofs.duty_record.Kinds as record-kinds
 use Rattle.duty.proofs.duty_record.Reads as record-reads
 use Rattle.duty.proofs.duty_size.Kinds as size-kinds
@@ -49,6 +55,18 @@ judge-once κs a one other x y p q = p ∙ sym q
 pub fresh-once : Agree 1 fresh-kinds.ps fresh-kinds.r fresh.Learnt
     (λ κs one other x y. (one ≡ other) × (x .1 .0 .now ≡ y .1 .0 .now))
 fresh-once κs a one other x y p q = let same = p .0 ∙ sym (q .0) in (same, told _ _ same (p .1) (q .1))
+
+pub write-table-once : Agree 3 write-table-kinds.ps write-table-kinds.r write-table.Learnt
+    (λ κs one other x y. (one ≡ other) × (x .1 .1 .1 .0 .now ≡ y .1 .1 .1 .0 .now))
+write-table-once κs a one other x y p q = (p .0 ∙ sym (q .0), p .1 ∙ sym (q .1))
+
+pub relation-once : Agree 2 relation-kinds.ps relation-kinds.r relation.Learnt
+    (λ κs one other x y. (one ≡ other) × (x .1 .1 .0 .now ≡ y .1 .1 .0 .now))
+relation-once κs a one other x y p q = (p .0 ∙ sym (q .0), p .1 ∙ sym (q .1))
+
+pub class-once : Agree 2 class-kinds.ps class-kinds.r class.Learnt
+    (λ κs one other x y. (one ≡ other) × (x .1 .1 .0 .now ≡ y .1 .1 .0 .now))
+class-once κs a one other x y p q = let same = p .0 ∙ sym (q .0) in (same, told _ _ same (p .1) (q .1))
 
 pub record-once : Agree 3 record-kinds.ps record-kinds.r record-reads.Learnt
     (λ κs one other x y. (one ≡ other) × (x .1 .1 .1 .0 .now ≡ y .1 .1 .1 .0 .now))

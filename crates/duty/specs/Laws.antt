@@ -5,4 +5,8 @@ pub mod ReadBack
 pub mod Answered
 pub mod Guarded
 pub mod Offered
+pub mod Placed
+pub mod Told
 pub mod Recorded
+pub mod Held
+pub mod Made

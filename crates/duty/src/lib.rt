@@ -1,10 +1,13 @@
 // The calls that a monitor's firmware makes from C: byte images, lent buffers and numbers in, the number of the refusal out. `include/duty.h`
 // says in words what each promises.
 mod acting;
+mod asking;
+mod building;
 mod guarding;
 mod images;
 mod offering;
 mod recording;
+mod tabling;
 mod telling;
 
 use acting::Act;
@@ -17,7 +20,7 @@ ghost use lib.ListN.{length, drop};
 ghost use Rattle.rules.specs.Numbers.{_if_, _else_, done};
 ghost use Rattle.rules.specs.EventSet.{sizeOf, lowestOf};
 ghost use Rattle.rules.specs.Fields.{bit};
-ghost use Rattle.rules.specs.Image.{recordBytes, markingImage, fresh};
+ghost use Rattle.rules.specs.Image.{classByte, recordBytes, markingImage, fresh};
 ghost use Rattle.rules.specs.Enabled.{enabledAnswer};
 ghost use Rattle.rules.specs.Ask.{request, report};
 ghost use Rattle.rules.specs.Time.{dueAnswer, plainTick};
@@ -28,7 +31,8 @@ ghost use Rattle.rules.specs.Check.{toldCheck};
 ghost use Rattle.rules.specs.Guard.{caused as causedEvents, guardedTick};
 ghost use Rattle.rules.specs.Remedy.{remedy};
 ghost use Rattle.rules.specs.Trace.{runBytes, runBytesAnswers};
-ghost use Rattle.rules.specs.Images.{imagesNumber, on, putBack, guardNumber, fieldsNumber, fieldsTold};
+ghost use Rattle.rules.specs.Images.{tableOf, imagesNumber, on, putBack, guardNumber, fieldsNumber, fieldsTold};
+ghost use Rattle.rules.specs.Building.{buildNumber, build, relationToldNumber, relationTold, classToldNumber};
 
 // The number that reading both images gives.
 #[no_mangle]
@@ -53,6 +57,61 @@ pub extern "C" fn duty_fresh(events: usize, marking: &mut [u8]) -> u8
     made.number
 }
 
+// A table's image, built from plain numbers: a class byte for each event, five numbers for each relation.
+#[no_mangle]
+pub extern "C" fn duty_write_table(
+    events: usize,
+    classes: &[u8],
+    relations: &[u32],
+    table: &mut [u8],
+) -> u8
+    ensures number { λ r. ⌜ r ≡ buildNumber events (now (classes .entry)) (now (relations .entry)) (length (now (table .entry))) ⌝ }
+    ensures table { λ _. ⌜ now (table .exit) ≡ build events (now (classes .entry)) (now (relations .entry)) (now (table .entry)) ⌝ }
+{
+    let number = building::counts_number(events, classes.len(), relations.len());
+    if number != 0 {
+        return number;
+    }
+    let sets = building::classes_from(classes);
+    if sets.number != 0 {
+        return sets.number;
+    }
+    let t = building::table_from(events, sets.controllable, sets.causable, relations);
+    image::write_table(t, table)
+}
+
+// A relation of a table: its five numbers.
+#[no_mangle]
+pub extern "C" fn duty_relation(table: &[u8], relation: usize, numbers: &mut [u32]) -> u8
+    ensures number { λ r. ⌜ r ≡ relationToldNumber (now (table .entry)) relation (length (now (numbers .entry))) ⌝ }
+    ensures numbers { λ _. ⌜ now (numbers .exit) ≡ relationTold (now (table .entry)) relation (now (numbers .entry)) ⌝ }
+{
+    let read = image::read_table(table);
+    let t = read.table;
+    let asked = asking::number(t.count, relation, numbers.len(), 5);
+    let number = images::first_of(read.number, asked);
+    if number == 0 {
+        let k = t.relations[relation];
+        tabling::put_numbers(k, numbers);
+    }
+    number
+}
+
+// The class of an event: its byte, as the image has it.
+#[no_mangle]
+pub extern "C" fn duty_class(table: &[u8], event: usize, byte: &mut u8) -> u8
+    ensures number { λ r. ⌜ r ≡ classToldNumber (now (table .entry)) event ⌝ }
+    ensures byte { λ r. ⌜ now (byte .exit) ≡ done r (classByte (tableOf (now (table .entry))) event) (now (byte .entry)) ⌝ }
+{
+    let read = image::read_table(table);
+    let t = read.table;
+    let number = images::first_of(read.number, asking::missing(t.events, event));
+    if number == 0 {
+        *byte = tabling::class_of(t.controllable, t.causable, event);
+    }
+    number
+}
+
 // The record of an event: its six fields, in the image's order.
 #[no_mangle]
 pub extern "C" fn duty_record(table: &[u8], marking: &[u8], event: usize, fields: &mut [u32]) -> u8
@@ -62,7 +121,7 @@ pub extern "C" fn duty_record(table: &[u8], marking: &[u8], event: usize, fields
     let read = images::read(table, marking);
     let t = read.table;
     let m = read.marking;
-    let asked = recording::number(t.events, event, fields.len());
+    let asked = asking::number(t.events, event, fields.len(), 6);
     let number = images::first_of(read.number, asked);
     if number == 0 {
         let r = m.records[event];

@@ -23,6 +23,8 @@ use Rattle.rules.proofs.MarkingAnswer.refused.Kinds as refused-kinds
 use Rattle.rules.proofs.MarkingAnswer.refused.Reads as refused
 use Rattle.image.proofs.read_table.Kinds as read-table-kinds
 use Rattle.image.proofs.read_table.Reads as read-table
+use Rattle.image.proofs.write_table.Kinds as write-table-kinds
+use Rattle.image.proofs.write_table.Reads as write-table
 use Rattle.image.proofs.read_marking.Kinds as read-marking-kinds
 use Rattle.image.proofs.read_marking.Reads as read-marking
 use Rattle.image.proofs.write_marking.Kinds as write-marking-kinds
@@ -40,6 +42,9 @@ OneAnswer n ps r promise =
 
 pub read-table-once : OneAnswer 1 read-table-kinds.ps read-table-kinds.r read-table.Learnt
 read-table-once κs a one other x y p q = p ∙ sym q
+
+pub write-table-once : OneAnswer 1 write-table-kinds.ps write-table-kinds.r write-table.Learnt
+write-table-once κs a one other x y p q = p .0 ∙ sym (q .0)
 
 pub read-marking-once : OneAnswer 1 read-marking-kinds.ps read-marking-kinds.r read-marking.Learnt
 read-marking-once κs a one other x y p q = p ∙ sym q
@@ -63,6 +68,11 @@ pub refused-once : OneAnswer 0 refused-kinds.ps refused-kinds.r refused.Learnt
 refused-once κs a one other x y p q = p ∙ sym q
 
 -- .. and so are two buffers that are handed back
+pub write-table-bytes-once : (κs : Lfts 1) (a : Dens κs write-table-kinds.ps) (one other : ℕ)
+    (x y : AtExit (endedOf 1 write-table-kinds.ps write-table-kinds.r) κs)
+    → write-table.Learnt κs a one x → write-table.Learnt κs a other y → x .1 .0 .now ≡ y .1 .0 .now
+write-table-bytes-once κs a one other x y p q = p .1 ∙ sym (q .1)
+
 pub write-marking-bytes-once : (κs : Lfts 1) (a : Dens κs write-marking-kinds.ps) (one other : ℕ)
     (x y : AtExit (endedOf 1 write-marking-kinds.ps write-marking-kinds.r) κs)
     → write-marking.Learnt κs a one x → write-marking.Learnt κs a other y → x .1 .0 .now ≡ y .1 .0 .now

@@ -1,8 +1,10 @@
--- A relation and a record as parts of the one number that their bytes hold, and a record as that number.
+-- A relation and a record as parts of the one number that their bytes hold, and as that number; a header and a class as that number.
+use mathlib.Core.Bool.{Bool}
 use Prim.Native.Nat.{ℕ, _/_, _%_, _^_}
 use lib.Dec.{eqb}
 use Rattle.rules.specs.declared.Relation.{Relation}
 use Rattle.rules.specs.declared.Record.{Record}
+use Rattle.rules.specs.EventSet.{has}
 use Rattle.rules.specs.Fields.{_▸_, _∶_, bit}
 
 -- kind 3, left 6, right 6, bounded 1, time 30, spare 2
@@ -14,6 +16,21 @@ relationOfWord w = record {
   bounded = eqb (w / 2 ^ 32 % 2) 1;
   time = w / 2 ^ 2 % 2 ^ 30;
 }
+
+abbrev pub wordOfRelation : Relation → ℕ
+wordOfRelation k = k .kind ▸ 6 ∶ k .left ▸ 6 ∶ k .right ▸ 1 ∶ bit (k .bounded) ▸ 30 ∶ k .time ▸ 2 ∶ 0
+
+-- its first 2 bytes, before the time
+abbrev pub endsWord : ℕ → ℕ → ℕ → Bool → ℕ
+endsWord kind left right bounded = kind ▸ 6 ∶ left ▸ 6 ∶ right ▸ 1 ∶ bit bounded
+
+-- controllable 1, causable 1, spare 6: event e of two sets
+abbrev pub classWord : ℕ → ℕ → ℕ → ℕ
+classWord controllable causable e = bit (has controllable e) ▸ 1 ∶ bit (has causable e) ▸ 6 ∶ 0
+
+-- events 7, relations 9, spare 16
+abbrev pub headerWord : ℕ → ℕ → ℕ
+headerWord events count = events ▸ 9 ∶ count ▸ 16 ∶ 0
 
 -- happened 1, age 30, included 1, pending 1, bounded 1, deadline 30
 abbrev pub recordOfWord : ℕ → Record

@@ -1,27 +1,29 @@
--- Nothing enters that the judge does not accept, and nothing leaves that cannot be read back. Assumes nothing.
-use mathlib.Core.Path.{_≡_, refl, ap, _∙_}
-use mathlib.Core.Bool.{true, not, _&&_}
+-- Nothing enters that the judge does not accept, and nothing leaves that cannot be read back; what is built from plain numbers is told back in them.
+-- Assumes nothing.
+use mathlib.Core.Path.{_≡_, refl, sym, ap, ap₂, _∙_}
+use mathlib.Core.Bool.{not}
 use mathlib.Core.List.{List, _++_}
 use Prim.Native.Nat.{ℕ, _-_, _*_, _<_, _≤_}
-use native.Mathlib.Decide.{ℕ-discrete}
-use borrow.Author.Tests.{not-false}
-use lib.Dec.{eqb, ltb}
-use lib.ListN.{length, getD, take, drop, replicate, List·getD-append}
-use lib.Seq.{take-at, drop-at}
+use borrow.Author.Tests.{ne-eqb, not-false}
+use lib.ListN.{length, getD, take, drop, replicate}
+use lib.Seq.{take-at}
+use Rattle.rules.specs.declared.Table.{Table}
 use Rattle.rules.specs.declared.Marking.{Marking}
 use Rattle.rules.specs.declared.Record.{Record}
-use Rattle.rules.specs.Counting.{places}
-use Rattle.rules.specs.Numbers.{_if_, firstOf}
-use Rattle.rules.specs.Holds.{mostEvents, mostRelations, recordOf, relationOf, emptyRecord, emptyRelation}
-use Rattle.rules.specs.Judge.{eventsFit, relationsFit, relationNumber, recordFits, markingNumber, markingNumberFor, tableNumber}
-use Rattle.rules.specs.Image.{eventsIn, relationsIn, headerSpare, tableLength, relationAt, relationBit, relationSpare, relationImageNumber, tableImageNumber}
-use Rattle.rules.specs.Image.{tableIn, readTable, markingFrom, recordBytes, markingImage, recordAt, recordBit, readMarking, writeNumber, writeMarking, fresh}
-use Rattle.rules.specs.Image.{freshRecord}
-use Rattle.rules.specs.Laws.Counting.{length-places, places-at}
-use Rattle.rules.specs.Laws.Numbers.{if-done, both-done, first-each, first-done}
-use Rattle.rules.specs.Laws.Written.{image-length, number-done, bytes-kept, bytes-written}
-use Rattle.image.specs.Parts.{classNumber}
-use Rattle.image.specs.Laws.Round.{places-same, from-done, from-done-for, readable, readable-number, reads-as, images-back, record-again, image-readable}
+use Rattle.rules.specs.Holds.{mostEvents, recordOf, emptyRecord}
+use Rattle.rules.specs.Judge.{eventsFit, recordFits, markingNumber, markingNumberFor, tableNumber}
+use Rattle.rules.specs.Image.{tableLength, tableIn, readTable, classByte, tableImage, writeTableNumber, writeTable, ImageHolds, unusedEmpty}
+use Rattle.rules.specs.Image.{markingFrom, recordBytes, markingImage, recordAt, recordBit, readMarking, writeNumber, writeMarking, fresh, freshRecord}
+use Rattle.rules.specs.Images.{tableOf}
+use Rattle.rules.specs.Building.{relationsTold, tableFrom, buildNumber, build, builtImage, relationToldNumber, relationTold, classToldNumber, Tells}
+use Rattle.rules.specs.Laws.Counting.{places-same}
+use Rattle.rules.specs.Laws.Numbers.{if-done, both-done}
+use Rattle.rules.specs.Laws.Written.{table-image-length, table-number-refused, table-number-done, table-bytes-kept, table-bytes-written}
+use Rattle.rules.specs.Laws.Written.{image-length, number-done, bytes-kept, bytes-written, later-kept}
+use Rattle.image.specs.Laws.Round.{from-done, from-done-for, readable, readable-number, reads-as, images-back, record-again, image-readable}
+use Rattle.image.specs.Laws.TableRound.{image-judged, image-read, table-readable, table-in-done, table-in-unused, table-image-back}
+use Rattle.image.specs.Laws.Built.{told, told-unused, told-done, numbers-again, class-told, told-tells}
+use Rattle.image.specs.Laws.Built.{table-read, relation-number-told, relation-told, class-number-told, tells-number, tells-bytes}
 
 -- A marking that is read is accepted by the judge.
 pub read-marking-accepted : (events : ℕ) (image : List ℕ) → readMarking events image .number ≡ 0
@@ -45,34 +47,8 @@ fresh-accepted events h =
 
 -- A table that is read is accepted by the judge.
 pub read-table-accepted : (image : List ℕ) → readTable image .number ≡ 0 → tableNumber (readTable image .table) ≡ 0
-unfolding readTable tableImageNumber tableIn tableNumber relationImageNumber
-read-table-accepted image h = rw h (accepted h)
-  where
-    n : ℕ
-    n = eventsIn image
-
-    count : ℕ
-    count = relationsIn image
-
-    kept : (k : ℕ) → k < count → relationOf (tableIn image) k ≡ relationAt image (relationBit n k)
-    kept k l =
-        List·getD-append (places count (λ j. relationAt image (relationBit n j))) (replicate (mostRelations - count) emptyRelation) emptyRelation k
-        (rw (length-places (λ j. relationAt image (relationBit n j)) count) l)
-        ∙ places-at (λ j. relationAt image (relationBit n j)) count k emptyRelation l
-
-    accepted : tableImageNumber image ≡ 0 → tableNumber (tableIn image) ≡ 0
-    accepted e =
-        let p = both-done (1 if ltb (length image) 4) _ e in
-        let q = both-done (2 if not (eqb (headerSpare image) 0)) _ (p .1) in
-        let r = both-done (3 if not (eventsFit n && relationsFit count)) _ (q .1) in
-        let s = both-done (1 if not (eqb (length image) (tableLength n count))) _ (r .1) in
-        let t = both-done (firstOf n (classNumber image)) _ (s .1) in
-        let fits : (eventsFit n && relationsFit count) ≡ true = not-false _ (if-done 2 _ (r .0)) in
-        rw fits
-        (first-done (λ k. relationNumber n (relationOf (tableIn image) k)) count
-        (λ k l.
-        let each = first-each (λ j. relationImageNumber image n (relationBit n j)) count k (t .1) l in
-        ap (relationNumber n) (kept k l) ∙ both-done (2 if not (eqb (relationSpare image (relationBit n k)) 0)) _ each .1))
+unfolding readTable
+read-table-accepted image h = rw h (table-in-done image (table-readable image h))
 
 -- Reading what was written gives the marking back, with event places past the count 0.
 pub written-is-read : (m : Marking) (buffer : List ℕ) → writeNumber m (length buffer) ≡ 0
@@ -109,10 +85,131 @@ pub refused-leaves : (m : Marking) (buffer : List ℕ) → (writeNumber m (lengt
 refused-leaves m buffer h = bytes-kept m buffer h
 
 pub later-stay : (m : Marking) (buffer : List ℕ) → drop (recordBytes * m .events) (writeMarking m buffer) ≡ drop (recordBytes * m .events) buffer
-later-stay m buffer = by (ℕ-discrete (writeNumber m (length buffer)) 0)
-  where
-    by : Dec (writeNumber m (length buffer) ≡ 0) → drop (recordBytes * m .events) (writeMarking m buffer) ≡ drop (recordBytes * m .events) buffer
-    by (yes e) =
-        ap (drop (recordBytes * m .events)) (bytes-written m buffer e)
-        ∙ drop-at (markingImage m) (drop (recordBytes * m .events) buffer) (recordBytes * m .events) (image-length m)
-    by (no h) = ap (drop (recordBytes * m .events)) (bytes-kept m buffer h)
+unfolding writeMarking
+later-stay m buffer = later-kept (writeNumber m (length buffer)) (markingImage m) buffer (image-length m)
+
+-- Reading what was written gives the table back, with its unused places empty.
+pub table-written-is-read : (t : Table) (buffer : List ℕ) → writeTableNumber t (length buffer) ≡ 0
+    → readTable (take (tableLength (t .events) (t .count)) (writeTable t buffer)) ≡ record { number = 0; table = unusedEmpty t }
+unfolding writeTableNumber
+table-written-is-read t buffer h =
+    let long = tableLength (t .events) (t .count) in
+    let bytes : take long (writeTable t buffer) ≡ tableImage t =
+    ap (take long) (table-bytes-written t buffer h) ∙ take-at (tableImage t) (drop long buffer) long (table-image-length t) in
+    ap readTable bytes ∙ image-read t (both-done (tableNumber t) _ h .0)
+
+-- What is read has its unused places empty already: a table that is read, written and read is the same.
+pub read-unused-empty : (image : List ℕ) → readTable image .number ≡ 0 → unusedEmpty (readTable image .table) ≡ readTable image .table
+unfolding readTable
+read-unused-empty image h = rw h (table-in-unused image)
+
+-- Writing what was read gives the same bytes, and later bytes stay.
+pub table-read-is-written : (image buffer : List ℕ) → ((i : ℕ) → getD image i 0 < 256) → readTable image .number ≡ 0
+    → length image ≤ length buffer
+    → (writeTableNumber (readTable image .table) (length buffer) ≡ 0)
+    × (writeTable (readTable image .table) buffer ≡ image ++ drop (length image) buffer)
+unfolding readTable tableIn
+table-read-is-written image buffer bytes h long =
+    let t = tableIn image in
+    let r = table-readable image h in
+    let number = table-number-done t (length buffer) (table-in-done image r) (rw (sym (r .exact)) long) in
+    rw h (
+      number,
+      table-bytes-written t buffer number
+          ∙ ap₂ (λ (l : List ℕ) (k : ℕ). l ++ drop k buffer) (table-image-back image r bytes) (sym (r .exact)),
+    )
+
+-- A table that an image can hold is judged as its image is read; so a table that breaks a rule is refused with the number that reading its image
+-- would give.
+pub judged-as-read : (t : Table) → ImageHolds t → readTable (tableImage t) .number ≡ tableNumber t
+unfolding readTable
+judged-as-read t held = image-judged t held
+
+pub refused-as-read : (t : Table) → ImageHolds t → (tableNumber t ≡ 0 → ⊥) → (room : ℕ) → writeTableNumber t room ≡ readTable (tableImage t) .number
+refused-as-read t held h room = table-number-refused t room h ∙ sym (judged-as-read t held)
+
+-- A refusal leaves every byte; a table that is written leaves every later byte.
+pub table-refused-leaves : (t : Table) (buffer : List ℕ) → (writeTableNumber t (length buffer) ≡ 0 → ⊥) → writeTable t buffer ≡ buffer
+table-refused-leaves t buffer h = table-bytes-kept t buffer h
+
+pub table-later-stay : (t : Table) (buffer : List ℕ)
+    → drop (tableLength (t .events) (t .count)) (writeTable t buffer) ≡ drop (tableLength (t .events) (t .count)) buffer
+unfolding writeTable
+table-later-stay t buffer = later-kept (writeTableNumber t (length buffer)) (tableImage t) buffer (table-image-length t)
+
+-- What is built is read as the table that was told.
+pub built-is-read : (events : ℕ) (classes numbers buffer : List ℕ) → buildNumber events classes numbers (length buffer) ≡ 0
+    → readTable (builtImage events classes numbers buffer) ≡ record { number = 0; table = tableFrom events classes numbers }
+unfolding build tableFrom
+built-is-read events classes numbers buffer h =
+    let t = tableFrom events classes numbers in
+    let long = tableLength events (relationsTold numbers) in
+    let bytes : builtImage events classes numbers buffer ≡ tableImage t =
+    rw h (take-at (tableImage t) (drop long buffer) long (table-image-length t)) in
+    ap readTable bytes
+    ∙ image-read t (told-done events classes numbers (told events classes numbers (length buffer) h))
+    ∙ ap (λ (x : Table). record { number = 0; table = x }) (told-unused events classes numbers)
+
+-- What is built is told back in the same numbers, each relation
+pub built-is-told : (events : ℕ) (classes numbers buffer : List ℕ) → buildNumber events classes numbers (length buffer) ≡ 0
+    → (k : ℕ) → k < relationsTold numbers → (places : List ℕ) → 5 ≤ length places
+    → (relationToldNumber (builtImage events classes numbers buffer) k (length places) ≡ 0)
+    × (relationTold (builtImage events classes numbers buffer) k places ≡ take 5 (drop (5 * k) numbers) ++ drop 5 places)
+unfolding tableFrom
+built-is-told events classes numbers buffer h k l places long =
+    let image = builtImage events classes numbers buffer in
+    let t = tableFrom events classes numbers in
+    let read = built-is-read events classes numbers buffer h in (
+      relation-number-told image t read k (length places) l long,
+      relation-told image t read k places l long
+          ∙ ap (λ (n : List ℕ). n ++ drop 5 places) (numbers-again events classes numbers (told events classes numbers (length buffer) h) k l),
+    )
+
+-- and the class of each event.
+pub built-class-is-told : (events : ℕ) (classes numbers buffer : List ℕ) → ((i : ℕ) → getD classes i 0 < 256)
+    → buildNumber events classes numbers (length buffer) ≡ 0 → (e : ℕ) → e < events
+    → (classToldNumber (builtImage events classes numbers buffer) e ≡ 0)
+    × (classByte (tableOf (builtImage events classes numbers buffer)) e ≡ getD classes e 0)
+unfolding tableFrom
+built-class-is-told events classes numbers buffer bytes h e l =
+    let image = builtImage events classes numbers buffer in
+    let t = tableFrom events classes numbers in
+    let read = built-is-read events classes numbers buffer h in (
+      class-number-told image t read e l,
+      ap (λ (x : Table). classByte x e) (table-read image t read)
+          ∙ class-told events classes numbers (told events classes numbers (length buffer) h) e l (bytes e),
+    )
+
+-- So the arrays that a table was built from are such as its image tells.
+pub built-tells : (events : ℕ) (classes numbers buffer : List ℕ) → ((i : ℕ) → getD classes i 0 < 256)
+    → buildNumber events classes numbers (length buffer) ≡ 0 → Tells classes numbers (tableOf (builtImage events classes numbers buffer))
+built-tells events classes numbers buffer bytes h =
+    rw (table-read (builtImage events classes numbers buffer) (tableFrom events classes numbers) (built-is-read events classes numbers buffer h))
+    (told-tells events classes numbers (told events classes numbers (length buffer) h) bytes)
+
+-- Building from what is told gives the same bytes, and later bytes stay: arrays that hold each class and each relation as an image tells them.
+pub told-is-built : (image classes numbers buffer : List ℕ) → ((i : ℕ) → getD image i 0 < 256) → readTable image .number ≡ 0
+    → Tells classes numbers (tableOf image) → length image ≤ length buffer
+    → (buildNumber (tableOf image .events) classes numbers (length buffer) ≡ 0)
+    × (build (tableOf image .events) classes numbers buffer ≡ image ++ drop (length image) buffer)
+unfolding tableOf
+told-is-built image classes numbers buffer bytes h tells long =
+    let t = tableOf image in
+    let written = table-read-is-written image buffer bytes h long in (
+      tells-number classes numbers t tells (length buffer) (written .0),
+      tells-bytes classes numbers t tells buffer (written .0) (read-unused-empty image h) ∙ written .1,
+    )
+
+-- A refusal leaves every byte; a table that is built leaves every later byte.
+pub build-refused-leaves : (events : ℕ) (classes numbers buffer : List ℕ) → (buildNumber events classes numbers (length buffer) ≡ 0 → ⊥)
+    → build events classes numbers buffer ≡ buffer
+unfolding build
+build-refused-leaves events classes numbers buffer h = rw (ne-eqb _ 0 h)
+
+pub build-later-stay : (events : ℕ) (classes numbers buffer : List ℕ)
+    → drop (tableLength events (relationsTold numbers)) (build events classes numbers buffer)
+    ≡ drop (tableLength events (relationsTold numbers)) buffer
+unfolding build tableFrom
+build-later-stay events classes numbers buffer =
+    later-kept (buildNumber events classes numbers (length buffer)) (tableImage (tableFrom events classes numbers)) buffer
+    (table-image-length (tableFrom events classes numbers))

@@ -11,7 +11,7 @@ use rules::TableAnswer;
 ghost use mathlib.Core.Path.{_≡_};
 ghost use lib.ListN.{length};
 ghost use Rattle.rules.specs.Judge.{tableNumber, markingNumberFor};
-ghost use Rattle.rules.specs.Image.{readTable, readMarking, writeNumber, writeMarking};
+ghost use Rattle.rules.specs.Image.{readTable, writeTableNumber, writeTable, readMarking, writeNumber, writeMarking};
 
 // The table of an image, or the number of the first rule that it breaks.
 pub fn read_table(image: &[u8]) -> TableAnswer
@@ -40,6 +40,22 @@ pub fn read_table(image: &[u8]) -> TableAnswer
         return table::refused(classes.number);
     }
     table::relations_in(image, events, count, classes.controllable, classes.causable)
+}
+
+// A table's image into the first bytes of a lent buffer; a refusal leaves every byte.
+pub fn write_table(t: Table, buffer: &mut [u8]) -> u8
+    ensures number { λ r. ⌜ r ≡ writeTableNumber t (length (now (buffer .entry))) ⌝ }
+    ensures bytes { λ r. ⌜ now (buffer .exit) ≡ writeTable t (now (buffer .entry)) ⌝ }
+{
+    let number = judge_table(t);
+    if number != 0 {
+        return number;
+    }
+    if buffer.len() < 4 + t.events + 6 * t.count {
+        return 14;
+    }
+    table::put_table(t, buffer);
+    0
 }
 
 // The marking of an image for so many events, or the number of the first rule that it breaks.

@@ -1,4 +1,4 @@
-// The classes and the relations of a table, out of an image.
+// The header, the classes and the relations of a table, in and out of an image.
 use crate::bits;
 use crate::judge;
 use rules::Relation;
@@ -6,11 +6,15 @@ use rules::Table;
 use rules::TableAnswer;
 ghost use mathlib.Core.Path.{_≡_};
 ghost use mathlib.Core.Bool.{cond};
+ghost use mathlib.Core.List.{_++_};
 ghost use Prim.Native.Nat.{_+_, _*_, _^_, _≤_, _<_};
-ghost use lib.ListN.{length};
+ghost use lib.ListN.{length, take, drop};
 ghost use Rattle.rules.specs.Holds.{mostEvents, mostRelations, emptyTable};
-ghost use Rattle.rules.specs.Image.{tableLength};
-ghost use Rattle.image.specs.Packed.{relationOfWord};
+ghost use Rattle.rules.specs.Fields.{bytesOf};
+ghost use Rattle.rules.specs.Pieces.{pieces};
+ghost use Rattle.rules.specs.Judge.{tableNumber};
+ghost use Rattle.rules.specs.Image.{tableLength, placeImage, tableImage};
+ghost use Rattle.image.specs.Packed.{relationOfWord, endsWord, classWord, headerWord};
 ghost use Rattle.image.specs.Parts.{classesRead, relationsRead};
 
 // The events of each class, or the number of a spare bit.
@@ -128,4 +132,84 @@ pub fn relations_in(
             count,
         },
     }
+}
+
+// The number that the header's bytes hold.
+fn header_of(events: usize, count: usize) -> u64
+    requires { ⌜ (events ≤ mostEvents) × (count ≤ mostRelations) ⌝ }
+    ensures { λ w. ⌜ w ≡ headerWord events count ⌝ }
+{
+    (events as u64 * 512 + count as u64) * 65536
+}
+
+// The number that the byte of an event's classes holds.
+fn class_of(controllable: u64, causable: u64, e: usize) -> u64
+    requires { ⌜ e < mostEvents ⌝ }
+    ensures { λ w. ⌜ w ≡ classWord controllable causable e ⌝ }
+{
+    ((controllable >> e) % 2 * 2 + (causable >> e) % 2) * 64
+}
+
+// The number that a relation's first 2 bytes hold: all but the time.
+fn ends_of(kind: u8, left: u8, right: u8, bounded: bool) -> u64
+    ensures { λ w. ⌜ w ≡ endsWord kind left right bounded ⌝ }
+{
+    let mut w = kind as u64;
+    w = w * 64 + left as u64;
+    w = w * 64 + right as u64;
+    w * 2 + bounded as u64
+}
+
+// The 6 bytes of a relation from byte `at` on. In two parts: of one number of 6 bytes the compiler makes more instructions.
+fn put_relation(ends: u64, time: u32, at: usize, buffer: &mut [u8])
+    requires { ⌜ at + 6 ≤ length (now buffer) ⌝ }
+    ensures { λ _. ⌜ now (buffer .exit) ≡ take at (now (buffer .entry)) ++ (bytesOf 2 ends ++ bytesOf 4 (time * 4)) ++ drop (at + 6) (now (buffer .entry)) ⌝ }
+{
+    bits::put_word(buffer, at, 2, ends);
+    bits::put_word(buffer, at + 2, 4, time as u64 * 4);
+}
+
+// The classes of so many events, a byte each behind the header, into a buffer with room for them.
+fn put_classes(controllable: u64, causable: u64, events: usize, buffer: &mut [u8])
+    requires { ⌜ (events ≤ mostEvents) × (4 + events ≤ length (now buffer)) ⌝ }
+    ensures { λ _. ⌜ now (buffer .exit) ≡ take 4 (now (buffer .entry))
+        ++ pieces (λ e. bytesOf 1 (classWord controllable causable e)) 0 events ++ drop (4 + events) (now (buffer .entry)) ⌝ }
+{
+    let mut i = 0;
+    while i < events {
+        bits::put_word(buffer, 4 + i, 1, class_of(controllable, causable, i));
+        i += 1;
+    }
+}
+
+// The relations of a table that is judged 'done', 6 bytes each behind the classes, into a buffer with room for them. Field by field: a relation
+// that is copied first costs more instructions.
+fn put_relations(t: Table, buffer: &mut [u8])
+    requires { ⌜ (tableNumber t ≡ 0) × (tableLength (t .events) (t .count) ≤ length (now buffer)) ⌝ }
+    ensures { λ _. ⌜ now (buffer .exit) ≡ take (4 + t .events) (now (buffer .entry))
+        ++ pieces (placeImage t) 0 (t .count) ++ drop (tableLength (t .events) (t .count)) (now (buffer .entry)) ⌝ }
+{
+    let behind = 4 + t.events;
+    let n = t.count;
+    let mut i = 0;
+    while i < n {
+        let ends = ends_of(
+            t.relations[i].kind,
+            t.relations[i].left,
+            t.relations[i].right,
+            t.relations[i].bounded,
+        );
+        put_relation(ends, t.relations[i].time, behind + 6 * i, buffer);
+        i += 1;
+    }
+}
+
+// A table that is judged 'done', into a buffer with room for it.
+pub fn put_table(t: Table, buffer: &mut [u8])
+    requires { ⌜ (tableNumber t ≡ 0) × (tableLength (t .events) (t .count) ≤ length (now buffer)) ⌝ }
+    ensures { λ _. ⌜ now (buffer .exit) ≡ tableImage t ++ drop (tableLength (t .events) (t .count)) (now (buffer .entry)) ⌝ }
+{
+    bits::put_word(buffer, 0, 4, header_of(t.events, t.count));
+    put_classes(t.controllable, t.causable, t.events, buffer);
+    put_relations(t, buffer);
 }

@@ -34,7 +34,8 @@ use Rattle.rules.specs.Fields.{field, bytesOf}
 use Rattle.rules.specs.Pieces.{pieces}
 use Rattle.rules.specs.Judge.{timeFits, relationNumber, tableNumber, recordFits, markingNumber, markingNumberFor, judged}
 use Rattle.rules.specs.Image.{relationAt, relationImageNumber, tableImageNumber, tableIn, readTable, recordAt, markingImageNumber, readMarking}
-use Rattle.rules.specs.Image.{recordImage, writeNumber, writeMarking, fresh}
+use Rattle.rules.specs.Image.{headerImage, classByte, classImage, relationImage, writeTableNumber, writeTable, recordImage, writeNumber, writeMarking}
+use Rattle.rules.specs.Image.{fresh}
 use Rattle.rules.specs.Enabled.{stops, blocks, isEnabled, enabledAnswer}
 use Rattle.rules.specs.Effect.{withDeadline, excludes, includes, given, smallest, executed, withInclusion, effectAt, effect}
 use Rattle.rules.specs.Time.{isDue, anyDue, dueSet, later, time, plainTickNumber, plainTick, dueAnswer}
@@ -49,6 +50,7 @@ use Rattle.rules.specs.Trace.{guardedTickKind, stepNumber, stepDone, ste
 use Rattle.rules.specs.Trace.{stepsIn, runBytes, runBytesAnswers}
 use Rattle.rules.specs.Station.{station, longestOutput, heardNumber, heardBytes, heardOutput}
 use Rattle.rules.specs.Images.{tableOf, markingOf, imagesNumber, fieldsNumber, fieldsTold}
+use Rattle.rules.specs.Building.{relationFrom, numbersNumber, tableFrom, buildNumber, build, relationToldNumber, relationTold, classToldNumber}
 use Rattle.rules.specs.Shop as shop
 
 -- A case: what is asked, of a table and of the marking after some steps from another, and what the paper tells.
@@ -65,6 +67,8 @@ pub data Question : Type 0 where
   stateBytes : ℕ → Question
   causedAlong : List Step → Question
   imageRead : ℕ → List ℕ → Question
+  tableBuffer : List ℕ → Question
+  tableWritten : ℕ → Question
   bufferWritten : List ℕ → Question
   startedFresh : ℕ → Question
   tableJudged : Question
@@ -86,6 +90,10 @@ pub data Question : Type 0 where
   holdUpTold : ℕ → Question
   checkTold : Question
   recordTold : List ℕ → List ℕ → ℕ → List ℕ → Question
+  buildOf : ℕ → List ℕ → List ℕ → ℕ → Question
+  buildBuffer : ℕ → List ℕ → List ℕ → List ℕ → Question
+  relationAsked : List ℕ → ℕ → List ℕ → Question
+  classAsked : List ℕ → ℕ → Question
 
 pub data Answer : Type 0 where
   verdicts : CheckAnswer → Answer
@@ -129,6 +137,8 @@ answer t m (state e) = is (recordOf m e)
 answer t m (stateBytes e) = bytes (recordImage (recordOf m e))
 answer t m (causedAlong steps) = events (causedIn t m steps)
 answer t m (imageRead n image) = marks (readMarking n image)
+answer t m (tableBuffer buffer) = bytes (writeTable t buffer)
+answer t m (tableWritten room) = number (writeTableNumber t room)
 answer t m (bufferWritten buffer) = bytes (writeMarking m buffer)
 answer t m (startedFresh n) = marks (fresh n)
 answer t m tableJudged = number (tableNumber t)
@@ -150,6 +160,10 @@ answer t m (marginTold k) = toldBy (toldMargin t m k)
 answer t m (holdUpTold e) = toldHold (toldHoldUp t m e)
 answer t m checkTold = toldVerdict (toldCheck t m)
 answer t m (recordTold table marking e places) = bytes (fieldsTold table marking e places)
+answer t m (buildOf n classes numbers room) = number (buildNumber n classes numbers room)
+answer t m (buildBuffer n classes numbers buffer) = bytes (build n classes numbers buffer)
+answer t m (relationAsked table k places) = bytes (relationTold table k places)
+answer t m (classAsked table e) = bytes (classToldNumber table e ∷ classByte (tableOf table) e ∷ [])
 
 abbrev asks : Table → Marking → Question → Answer → Case
 asks t m q a = record { table = t; marking = m; asked = q; told = a }
@@ -270,6 +284,15 @@ unfoldable pub turning : List Case
 turning =
     -- read_marking: 3 comes first. Not 1
     after [] (imageRead 0 (7 ∷ [])) (marks (refusal 3 emptyMarking))
+    -- write_table: P's bytes, and a later byte stays. Not left and right the other way round; not a 0 behind
+    ∷ after [] (tableBuffer (replicate 46 9)) (bytes (shop.pImage ++ (9 ∷ [])))
+    -- the table's number before 14, and a refusal writes nothing. Not 14; not a header
+    ∷ asks (shop.table 1 1 1 (shop.response 0 0 0 ∷ [])) shop.start (tableWritten 0) (number 6)
+    ∷ after [] (tableWritten 44) (number 14)
+    ∷ after [] (tableBuffer (replicate 44 9)) (bytes (replicate 44 9))
+    -- class bits of events past the count, and relations past theirs, are not written. Not a class byte more
+    ∷ asks (record { relations = replicate 256 (shop.includes 0 0); controllable = 7; causable = 6; events = 1; count = 0 }) shop.start
+    (tableBuffer (replicate 6 9)) (bytes (0x02 ∷ 0x00 ∷ 0x00 ∷ 0x00 ∷ 0x80 ∷ 9 ∷ []))
     -- write_marking: a refusal writes nothing. Not a first byte
     ∷ after [] (bufferWritten (9 ∷ 9 ∷ [])) (bytes (9 ∷ 9 ∷ []))
     -- fresh: included, and a place past the count is 0. Not excluded; not a fresh record; 65 events are not 64
@@ -325,6 +348,23 @@ turning =
     ∷ after [] (recordTold shop.hexTable shop.hexMarking 0 (replicate 7 9)) (bytes (0 ∷ 0 ∷ 1 ∷ 1 ∷ 1 ∷ 0 ∷ 9 ∷ []))
     ∷ after [] (recordTold shop.hexTable (shop.hexRecord ++ replicate 8 0) 0 (replicate 6 9)) (bytes (1 ∷ 1 ∷ 1 ∷ 1 ∷ 1 ∷ 0 ∷ []))
     ∷ after [] (recordTold shop.hexTable shop.hexMarking 1 (9 ∷ [])) (bytes (9 ∷ []))
+    -- a table built from plain numbers: P's bytes, and a later byte stays
+    ∷ after [] (buildBuffer 5 shop.pClasses shop.pNumbers (replicate 46 9)) (bytes (shop.pImage ++ (9 ∷ [])))
+    -- no number is cut down before it is judged: a kind of 257 is not 1, a left of 256 not 0, a bounded of 2 not 0, a time of 2^30 not 0
+    ∷ after [] (buildOf 1 (0 ∷ []) (257 ∷ 0 ∷ 0 ∷ 1 ∷ 0 ∷ []) 11) (number 4)
+    ∷ after [] (buildOf 1 (0 ∷ []) (3 ∷ 256 ∷ 0 ∷ 0 ∷ 0 ∷ []) 11) (number 5)
+    ∷ after [] (buildOf 1 (0 ∷ []) (3 ∷ 0 ∷ 0 ∷ 2 ∷ 0 ∷ []) 11) (number 6)
+    ∷ after [] (buildOf 1 (0 ∷ []) (1 ∷ 0 ∷ 0 ∷ 1 ∷ 2 ^ 30 ∷ []) 11) (number 6)
+    -- 3 before 1, 1 before 2, 2 before the relations, these before 14. Not the later one
+    ∷ after [] (buildOf 0 (1 ∷ []) (9 ∷ []) 0) (number 3)
+    ∷ after [] (buildOf 1 (1 ∷ []) (9 ∷ []) 0) (number 1)
+    ∷ after [] (buildOf 1 (1 ∷ []) (9 ∷ 0 ∷ 0 ∷ 0 ∷ 0 ∷ []) 0) (number 2)
+    ∷ after [] (buildOf 1 (0 ∷ []) (9 ∷ 0 ∷ 0 ∷ 0 ∷ 0 ∷ []) 0) (number 4)
+    ∷ after [] (buildOf 1 (0 ∷ []) (3 ∷ 0 ∷ 0 ∷ 0 ∷ 0 ∷ []) 10) (number 14)
+    -- and told back: relation 0 and the class of flush; 8 before 14, and nothing is written. Not a sixth place
+    ∷ after [] (relationAsked shop.pImage 0 (replicate 6 9)) (bytes (2 ∷ 0 ∷ 1 ∷ 1 ∷ 3 ∷ 9 ∷ []))
+    ∷ after [] (relationAsked shop.pImage 6 (9 ∷ [])) (bytes (9 ∷ []))
+    ∷ after [] (classAsked shop.pImage 1) (bytes (0 ∷ 0xC0 ∷ []))
     -- station: an empty input is too short for a table. Not nothing
     ∷ after [] (stationOf []) (bytes (1 ∷ []))
     -- the call: 14 for an output that could be too short, and for bytes after too few; then nothing is written. Not 0, nor a first byte
@@ -356,5 +396,5 @@ cases = worked ++ mistakes ++ turning
 
 -- every case is answered as told
 pub told-right : map (λ c. answer (c .table) (c .marking) (c .asked)) cases ≡ map (λ c. c .told) cases
-unfolding cases worked mistakes turning answer causedIn every some lowest howMany repeated placesFrom belowFrom firstOf has setOf sizeOf lowestOf field bytesOf timeFits relationNumber tableNumber recordFits markingNumber markingNumberFor judged relationAt relationImageNumber tableImageNumber tableIn readTable recordAt markingImageNumber readMarking recordImage pieces stops blocks isEnabled withDeadline excludes includes given smallest executed withInclusion effectAt effect isDue anyDue dueSet later time plainTickNumber plainTick requestNumber reportNumber request marginOf margin holdUpOf holdUp busy follows widened widenedFully closure closureAnswer unreportable uncausable waiting awaited onCycle reopening reviving verdict check holdsBack needed ready orderOf taken takenAll executedOf caused guarded guardedTick inTurn effects discharges shortest remedyNumber remedy stepNumber stepDone stepped endOf answersOf traceNumber stepsIn station writeNumber writeMarking fresh enabledAnswer dueAnswer report run runAnswers runBytes runBytesAnswers toldMargin toldHoldUp reasonOf placeOf toldCheck tableOf markingOf imagesNumber fieldsNumber fieldsTold heardNumber heardBytes heardOutput
+unfolding cases worked mistakes turning answer causedIn every some lowest howMany repeated placesFrom belowFrom firstOf has setOf sizeOf lowestOf field bytesOf timeFits relationNumber tableNumber recordFits markingNumber markingNumberFor judged relationAt relationImageNumber tableImageNumber tableIn readTable recordAt markingImageNumber readMarking headerImage classImage relationImage writeTableNumber writeTable recordImage pieces stops blocks isEnabled withDeadline excludes includes given smallest executed withInclusion effectAt effect isDue anyDue dueSet later time plainTickNumber plainTick requestNumber reportNumber request marginOf margin holdUpOf holdUp busy follows widened widenedFully closure closureAnswer unreportable uncausable waiting awaited onCycle reopening reviving verdict check holdsBack needed ready orderOf taken takenAll executedOf caused guarded guardedTick inTurn effects discharges shortest remedyNumber remedy stepNumber stepDone stepped endOf answersOf traceNumber stepsIn station writeNumber writeMarking fresh enabledAnswer dueAnswer report run runAnswers runBytes runBytesAnswers toldMargin toldHoldUp reasonOf placeOf toldCheck tableOf markingOf imagesNumber fieldsNumber fieldsTold relationFrom numbersNumber tableFrom buildNumber build relationToldNumber relationTold classToldNumber heardNumber heardBytes heardOutput
 told-right = refl

@@ -10,7 +10,7 @@ use Rattle.rules.specs.declared.Marking.{Marking}
 use Rattle.rules.specs.declared.Step.{Step}
 use Rattle.rules.specs.Numbers.{marginNumber, holdUpNumber, checkNumber}
 use Rattle.rules.specs.Judge.{tableNumber, markingNumberFor}
-use Rattle.rules.specs.Image.{readTable, readMarking, writeNumber, fresh}
+use Rattle.rules.specs.Image.{readTable, readMarking, writeTableNumber, writeNumber, fresh}
 use Rattle.rules.specs.Enabled.{enabledAnswer}
 use Rattle.rules.specs.Time.{dueAnswer, plainTick}
 use Rattle.rules.specs.Ask.{request, report}
@@ -22,6 +22,7 @@ use Rattle.rules.specs.Guard.{guardedTick}
 use Rattle.rules.specs.Remedy.{remedy}
 use Rattle.rules.specs.Trace.{run, runAnswers, runBytes, runBytesAnswers}
 use Rattle.rules.specs.Images.{imagesNumber, guardNumber, fieldsNumber}
+use Rattle.rules.specs.Building.{buildNumber, relationToldNumber, classToldNumber}
 use Rattle.rules.specs.Station.{stepsPart, station, heardNumber}
 
 -- the numbers that a call may give: 0 for 'done', and 1 to 15
@@ -33,6 +34,7 @@ pub record EveryCall (P : ℕ → Type 0) : Type 0 where
   -- the image reader
   pub of-read-table : (image : List ℕ) → P (readTable image .number)
   pub of-read-marking : (events : ℕ) (image : List ℕ) → P (readMarking events image .number)
+  pub of-write-table : (t : Table) (room : ℕ) → P (writeTableNumber t room)
   pub of-write-marking : (m : Marking) (room : ℕ) → P (writeNumber m room)
   pub of-fresh : (events : ℕ) → P (fresh events .number)
   pub of-judge-table : (t : Table) → P (tableNumber t)
@@ -60,10 +62,13 @@ pub record EveryCall (P : ℕ → Type 0) : Type 0 where
   pub of-heard : (kept beyond room : ℕ) → P (heardNumber kept beyond room)
   pub of-station : (input : List ℕ) (byte : ℕ) → station input ≡ byte ∷ [] → P byte
   pub of-station-answers : (input : List ℕ) (i : ℕ) → i < length (stepsPart input) / 2 → P (getD (station input) i 0)
-  -- what the calls for C ask before their rule, and of a record's fields
+  -- what the calls for C ask before their rule, of a record's fields, and of a table built and told in numbers
   pub of-images : (table marking : List ℕ) → P (imagesNumber table marking)
   pub of-guard : (table marking : List ℕ) (room : ℕ) → P (guardNumber table marking room)
   pub of-fields : (table marking : List ℕ) (event room : ℕ) → P (fieldsNumber table marking event room)
+  pub of-build : (events : ℕ) (classes numbers : List ℕ) (room : ℕ) → P (buildNumber events classes numbers room)
+  pub of-relation-told : (table : List ℕ) (relation room : ℕ) → P (relationToldNumber table relation room)
+  pub of-class-told : (table : List ℕ) (event : ℕ) → P (classToldNumber table event)
 
 -- n is given by no call
 abbrev pub Never : ℕ → Type 0

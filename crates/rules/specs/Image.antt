@@ -1,7 +1,7 @@
--- The images: reading a table, reading and writing a marking, the fresh marking.
-use mathlib.Core.Bool.{true, false, not, _&&_}
+-- The images: reading and writing a table, reading and writing a marking, the fresh marking.
+use mathlib.Core.Bool.{Bool, true, false, not, _&&_}
 use mathlib.Core.List.{List, _++_}
-use Prim.Native.Nat.{ℕ, _+_, _-_, _*_}
+use Prim.Native.Nat.{ℕ, _+_, _-_, _*_, _^_, _<_}
 use lib.Dec.{eqb, ltb}
 use lib.ListN.{length, drop, replicate}
 use Rattle.rules.specs.declared.Relation.{Relation}
@@ -13,10 +13,11 @@ use Rattle.rules.specs.declared.MarkingAnswer.{MarkingAnswer}
 use Rattle.rules.specs.Counting.{places}
 use Rattle.rules.specs.Numbers.{_if_, _else_, firstOf, done}
 use Rattle.rules.specs.EventSet.{setOf}
-use Rattle.rules.specs.Holds.{mostEvents, mostRelations, emptyRelation, emptyRecord, emptyTable, emptyMarking, recordOf}
+use Rattle.rules.specs.Holds.{mostEvents, mostRelations, emptyRelation, emptyRecord, emptyTable, emptyMarking, relationOf, recordOf}
+use Rattle.rules.specs.Holds.{isControllable, isCausable}
 use Rattle.rules.specs.Fields.{field, flag, _▸_, _∶_, bit, bytesOf}
 use Rattle.rules.specs.Pieces.{pieces}
-use Rattle.rules.specs.Judge.{eventsFit, relationsFit, relationNumber, recordNumber, markingNumber}
+use Rattle.rules.specs.Judge.{eventsFit, relationsFit, relationNumber, tableNumber, recordNumber, markingNumber}
 
 -- Table image. Header, 4 bytes: events 7 bits, relations 9 bits, spare 16 bits
 abbrev pub eventsIn : List ℕ → ℕ
@@ -71,21 +72,69 @@ tableImageNumber image =
     else firstOf n (λ e. 2 if not (eqb (classSpare image e) 0))
     else firstOf relations (λ k. relationImageNumber image n (relationBit n k))
 
--- the table of an image, unused places empty
+-- a table of so many events and relations, each told by its number, its unused places empty
+abbrev pub tableWith : ℕ → ℕ → (ℕ → Relation) → (ℕ → Bool) → (ℕ → Bool) → Table
+tableWith events count relation controllable causable = record {
+  relations = places count relation ++ replicate (mostRelations - count) emptyRelation;
+  controllable = setOf events controllable;
+  causable = setOf events causable;
+  events = events;
+  count = count;
+}
+
+-- the table of an image
 unfoldable pub tableIn : List ℕ → Table
 tableIn image =
     let n = eventsIn image in
-    let relations = relationsIn image in
-    record {
-      relations = places relations (λ k. relationAt image (relationBit n k)) ++ replicate (mostRelations - relations) emptyRelation;
-      controllable = setOf n (λ e. flag image (classBit e));
-      causable = setOf n (λ e. flag image (classBit e + 1));
-      events = n;
-      count = relations;
-    }
+    tableWith n (relationsIn image) (λ k. relationAt image (relationBit n k)) (λ e. flag image (classBit e)) (λ e. flag image (classBit e + 1))
 
 unfoldable pub readTable : List ℕ → TableAnswer
 readTable image = let number = tableImageNumber image in record { number = number; table = done number (tableIn image) emptyTable }
+
+-- The header, the classes of an event and a relation in their bytes; spare bits are 0
+unfoldable pub headerImage : Table → List ℕ
+headerImage t = bytesOf 4 (t .events ▸ 9 ∶ t .count ▸ 16 ∶ 0)
+
+abbrev pub classByte : Table → ℕ → ℕ
+classByte t e = bit (isControllable t e) ▸ 1 ∶ bit (isCausable t e) ▸ 6 ∶ 0
+
+unfoldable pub classImage : Table → ℕ → List ℕ
+classImage t e = bytesOf 1 (classByte t e)
+
+unfoldable pub relationImage : Relation → List ℕ
+relationImage k = bytesOf 6 (k .kind ▸ 6 ∶ k .left ▸ 6 ∶ k .right ▸ 1 ∶ bit (k .bounded) ▸ 30 ∶ k .time ▸ 2 ∶ 0)
+
+-- header, then the classes in order, then the relations in order
+abbrev pub placeImage : Table → ℕ → List ℕ
+placeImage t k = relationImage (relationOf t k)
+
+abbrev pub tableImage : Table → List ℕ
+tableImage t = headerImage t ++ pieces (classImage t) 0 (t .events) ++ pieces (placeImage t) 0 (t .count)
+
+-- a table written into a buffer of so many bytes: 3, then each relation in order, as the reader has them; then 14
+unfoldable pub writeTableNumber : Table → ℕ → ℕ
+writeTableNumber t room = tableNumber t else 14 if ltb room (tableLength (t .events) (t .count))
+
+-- what the lent buffer holds afterwards: the table first, and later bytes stay
+unfoldable pub writeTable : Table → List ℕ → List ℕ
+writeTable t buffer =
+    done (writeTableNumber t (length buffer)) (tableImage t ++ drop (tableLength (t .events) (t .count)) buffer) buffer
+
+-- an image can hold the table: each of its numbers fits its field
+pub record FieldsHold (k : Relation) : Type 0 where
+  pub kind-fits : k .kind < 2 ^ 3
+  pub left-fits : k .left < 2 ^ 6
+  pub right-fits : k .right < 2 ^ 6
+  pub time-fits : k .time < 2 ^ 30
+
+pub record ImageHolds (t : Table) : Type 0 where
+  pub events-fit : t .events < 2 ^ 7
+  pub count-fits : t .count < 2 ^ 9
+  pub relations-fit : (k : ℕ) → k < t .count → FieldsHold (relationOf t k)
+
+-- a table with its unused places empty: relations past the count, and class bits of events past the event count
+unfoldable pub unusedEmpty : Table → Table
+unusedEmpty t = tableWith (t .events) (t .count) (relationOf t) (isControllable t) (isCausable t)
 
 -- Marking image: 8 bytes per event, no header: happened 1, age 30, included 1, pending 1, bounded 1, deadline 30
 abbrev pub recordBytes : ℕ

@@ -8,6 +8,7 @@ pub mod Judge
 pub mod Fit
 pub mod Fields
 pub mod Pieces
+pub mod TableWith
 pub mod Written
 pub mod Granted
 pub mod Time

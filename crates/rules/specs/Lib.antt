@@ -20,6 +20,7 @@ pub mod Remedy
 pub mod Trace
 pub mod Station
 pub mod Images
+pub mod Building
 -- The words of the statements: of numbers that are given, of unused places, of demand 3.
 pub mod Given
 pub mod Unused

@@ -93,6 +93,29 @@ pClass = 2 ^ 1 + 2 ^ 2 + 2 ^ 4
 abbrev pub P : Table
 P = table 5 pClass pClass pRelations
 
+-- P as an image; and in plain numbers, a class byte for each event and five numbers for each relation
+abbrev pub pImage : List ℕ
+pImage =
+    (0x0A ∷ 0x06 ∷ 0x00 ∷ 0x00 ∷ 0x00 ∷ 0xC0 ∷ 0xC0 ∷ 0x00 ∷ 0xC0 ∷ [])
+    ++ (0x40 ∷ 0x03 ∷ 0x00 ∷ 0x00 ∷ 0x00 ∷ 0x0C ∷ [])
+    ++ (0x20 ∷ 0x85 ∷ 0x00 ∷ 0x00 ∷ 0x00 ∷ 0x00 ∷ [])
+    ++ (0x60 ∷ 0x02 ∷ 0x00 ∷ 0x00 ∷ 0x00 ∷ 0x00 ∷ [])
+    ++ (0x81 ∷ 0x82 ∷ 0x00 ∷ 0x00 ∷ 0x00 ∷ 0x00 ∷ [])
+    ++ (0xA0 ∷ 0x88 ∷ 0x00 ∷ 0x00 ∷ 0x00 ∷ 0x00 ∷ [])
+    ++ (0x40 ∷ 0x08 ∷ 0x00 ∷ 0x00 ∷ 0x00 ∷ 0x00 ∷ [])
+
+abbrev pub pClasses : List ℕ
+pClasses = 0x00 ∷ 0xC0 ∷ 0xC0 ∷ 0x00 ∷ 0xC0 ∷ []
+
+abbrev pub pNumbers : List ℕ
+pNumbers =
+    (2 ∷ 0 ∷ 1 ∷ 1 ∷ 3 ∷ [])
+    ++ (1 ∷ 1 ∷ 2 ∷ 1 ∷ 0 ∷ [])
+    ++ (3 ∷ 0 ∷ 1 ∷ 0 ∷ 0 ∷ [])
+    ++ (4 ∷ 3 ∷ 1 ∷ 0 ∷ 0 ∷ [])
+    ++ (5 ∷ 1 ∷ 4 ∷ 0 ∷ 0 ∷ [])
+    ++ (2 ∷ 0 ∷ 4 ∷ 0 ∷ 0 ∷ [])
+
 -- P with relation 6 added
 abbrev pub P+ : Relation → Table
 P+ k = table 5 pClass pClass (pRelations ++ (k ∷ []))

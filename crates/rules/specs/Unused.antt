@@ -11,7 +11,7 @@ use Rattle.rules.specs.declared.MarkingAnswer.{MarkingAnswer}
 use Rattle.rules.specs.declared.GuardedAnswer.{GuardedAnswer}
 use Rattle.rules.specs.Holds.{isControllable, isCausable, relationOf, recordOf}
 use Rattle.rules.specs.Judge.{tableNumber, markingNumberFor}
-use Rattle.rules.specs.Image.{writeNumber, writeMarking}
+use Rattle.rules.specs.Image.{writeTableNumber, writeTable, writeNumber, writeMarking}
 use Rattle.rules.specs.Enabled.{enabledAnswer}
 use Rattle.rules.specs.Time.{dueAnswer, plainTick}
 use Rattle.rules.specs.Ask.{request, report}
@@ -59,6 +59,8 @@ pub record KeepsUnused (before after : Marking) : Type 0 where
 -- every public call that is handed a table or a marking gives t and m, and u and n, answers that agree
 pub record NoneLooks (t u : Table) (m n : Marking) : Type 0 where
   -- the image reader
+  pub of-write-table-number : (room : ℕ) → writeTableNumber t room ≡ writeTableNumber u room
+  pub of-write-table : (buffer : List ℕ) → writeTable t buffer ≡ writeTable u buffer
   pub of-write-number : (room : ℕ) → writeNumber m room ≡ writeNumber n room
   pub of-write-marking : (buffer : List ℕ) → writeMarking m buffer ≡ writeMarking n buffer
   pub of-judge-table : tableNumber t ≡ tableNumber u

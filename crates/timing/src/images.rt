@@ -1,4 +1,5 @@
-// Reading, writing and judging. A lent image is changed from turn to turn in event 0: the class byte, the low bits of the age.
+// Reading, writing and judging. A lent image is changed from turn to turn in event 0: the class byte, the low bits of the age. Of a table that
+// is written the sum decides which events are controllable, and the class byte of event 1 is taken into it.
 use crate::fold;
 use crate::start;
 use rules::Marking;
@@ -13,6 +14,22 @@ pub extern "C" fn timing_read_table(bytes: &mut [u8], mut times: usize) -> u64 {
         times -= 1;
         bytes[4] = 64 + 128 * (sum % 2) as u8;
         sum = fold::table(sum, image::read_table(bytes));
+    }
+    sum
+}
+
+#[no_mangle]
+pub extern "C" fn timing_write_table(table: &[u8], buffer: &mut [u8], mut times: usize) -> u64 {
+    if buffer.len() < 6 {
+        return 0;
+    }
+    let mut t = start::table(table);
+    let mut sum = 1;
+    while times > 0 {
+        times -= 1;
+        t.controllable = sum;
+        sum = fold::number(sum, image::write_table(t, buffer));
+        sum = fold::number(sum, buffer[5]);
     }
     sum
 }

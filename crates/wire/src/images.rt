@@ -1,5 +1,5 @@
-// Calls 1 to 6: the image reader's, and a fresh marking. An event count comes first where a call is given one; a marking, an image or a buffer
-// is behind it.
+// Calls 1 to 6 and 22: the image reader's, and a fresh marking. An event count comes first where a call is given one; a marking, an image or a
+// buffer is behind it. A buffer to write to is behind what is written.
 use crate::answer;
 use crate::given;
 use crate::told;
@@ -17,6 +17,14 @@ fn write_marking(s: &[u8], out: &mut [u8]) -> usize {
     1 + buffer.len()
 }
 
+// The same of a table.
+fn write_table(s: &[u8], out: &mut [u8]) -> usize {
+    let buffer = given::after(s, given::TABLE as usize);
+    let number = image::write_table(given::table(s), answer::lent(out, 1, buffer));
+    answer::put_told(out, told::number(number));
+    1 + buffer.len()
+}
+
 fn judge_marking(s: &[u8]) -> u8 {
     image::judge_marking(events(s), given::marking(given::after(s, 8)))
 }
@@ -30,6 +38,7 @@ pub fn answer(call: u8, s: &[u8], out: &mut [u8]) -> usize {
         4 => answer::put_marking_answer(out, Marking::fresh(events(s))),
         5 => answer::put_told(out, told::number(image::judge_table(given::table(s)))),
         6 => answer::put_told(out, told::number(judge_marking(s))),
+        22 => write_table(s, out),
         _ => 0,
     }
 }

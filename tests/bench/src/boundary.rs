@@ -1,6 +1,7 @@
-//! The calls that are exported to C, over images. `tests/boundary/answers.c` has
-//! the form of a question and of an answer, and answers; here are random
-//! questions and what the second implementation says to them.
+//! The calls that are exported to C, over images and plain numbers.
+//! `tests/boundary/answers.c` has the form of a question and of an answer, and
+//! answers; here are random questions and what the second implementation says to
+//! them.
 
 use second::case::{Case, Pair};
 use second::generate::{self, marking_image, table_image};
@@ -11,7 +12,8 @@ use std::io::{Read, Write};
 use std::sync::mpsc::channel;
 use std::thread;
 
-/// The fields of a record, of 4 bytes each in a question's second list.
+/// The fields of a record, of 4 bytes each in a question's second list, as the
+/// numbers of a relation are.
 const FIELDS: usize = 6;
 
 /// What an out-parameter holds before a call.
@@ -27,7 +29,7 @@ const fn call(name: &'static str, case: fn(&mut Rng) -> Case) -> Call {
 }
 
 /// By their numbers in a question. Judging and records take the cases of other calls.
-const CALLS: [Call; 17] = [
+const CALLS: [Call; 20] = [
     call("judge", generate::due_case),
     call("fresh", generate::fresh_case),
     call("size", generate::size_case),
@@ -45,10 +47,24 @@ const CALLS: [Call; 17] = [
     call("remedies", generate::remedies_case),
     call("run", generate::run_bytes_case),
     call("record", generate::enabled_case),
+    call("write_table", generate::build_table_case),
+    call("relation", generate::tell_relation_case),
+    call("class", generate::tell_class_case),
 ];
 
-/// The numbers that a call can give; 15 is a step's.
+/// The numbers that some call gives; 15 is a step's.
 const NUMBERS: std::ops::RangeInclusive<u8> = 0..=14;
+
+/// The numbers that each of these calls gives. Most are given by other calls too,
+/// so they are looked for call by call.
+const NUMBERS_OF: [(&str, &[u8]); 3] = [
+    ("write_table", &[0, 1, 2, 3, 4, 5, 6, 14]),
+    ("relation", &[0, 1, 2, 3, 4, 5, 6, 8, 14]),
+    ("class", &[0, 1, 2, 3, 4, 5, 6, 8]),
+];
+
+/// Which numbers came up, and of which call.
+pub type Seen = BTreeSet<(&'static str, u8)>;
 
 #[derive(Clone, Debug)]
 pub struct Question {
@@ -95,6 +111,21 @@ fn damage(rng: &mut Rng, image: &mut Vec<u8>) {
     }
 }
 
+/// Numbers of 4 bytes each.
+fn bytes_of(numbers: &[u32]) -> Vec<u8> {
+    numbers.iter().flat_map(|n| n.to_le_bytes()).collect()
+}
+
+/// The numbers that these bytes are, and the bytes behind the last whole one.
+fn numbers_in(bytes: &[u8]) -> (Vec<u32>, &[u8]) {
+    let places = bytes.chunks_exact(4);
+    let behind = places.remainder();
+    let numbers = places
+        .map(|place| u32::from_le_bytes(place.try_into().expect("a place has four bytes")))
+        .collect();
+    (numbers, behind)
+}
+
 impl Question {
     fn random(rng: &mut Rng, number: usize) -> Question {
         let case = (CALLS[number].case)(rng);
@@ -131,6 +162,27 @@ impl Question {
             } => (question.first, question.second) = (preferred, fallback),
             Case::RunBytes { steps, answers, .. } => {
                 (question.first, question.second) = (steps, answers);
+            }
+            Case::BuildTable {
+                events,
+                classes,
+                relations,
+                buffer,
+            } => {
+                question.asked = events as u64;
+                question.marking = bytes_of(&relations);
+                (question.first, question.second) = (classes, buffer);
+            }
+            Case::TellRelation {
+                image,
+                relation,
+                places,
+            } => {
+                (question.table, question.asked) = (image, relation as u64);
+                question.second = bytes_of(&places);
+            }
+            Case::TellClass { image, event, .. } => {
+                (question.table, question.asked) = (image, event as u64);
             }
             _ => {}
         }
@@ -175,7 +227,19 @@ impl Question {
             "fresh" => self.fresh(),
             "size" => self.untouched(second::size(self.asked)),
             "lowest" => self.untouched(second::lowest(self.asked)),
-            "record" => self.record(),
+            "record" => self.in_places(|places| {
+                second::record(&self.table, &self.marking, self.asked as usize, places)
+            }),
+            "relation" => self.in_places(|places| {
+                second::tell_relation(&self.table, self.asked as usize, places)
+            }),
+            "class" => {
+                let mut answer = self.untouched(0);
+                let asked = self.asked as usize;
+                answer.number = second::tell_class(&self.table, asked, &mut answer.small);
+                answer
+            }
+            "write_table" => self.write_table(),
             _ => {
                 let table = second::read_table(&self.table);
                 if table.number != 0 {
@@ -199,21 +263,29 @@ impl Question {
         answer
     }
 
-    fn record(&self) -> Answer {
-        let places = self.second.chunks_exact(4);
-        let behind = places.remainder().to_vec();
-        let mut fields: Vec<u32> = places
-            .map(|place| u32::from_le_bytes(place.try_into().expect("a place has four bytes")))
-            .collect();
-        let asked = self.asked as usize;
-        let number = second::record(&self.table, &self.marking, asked, &mut fields);
-        let mut answer = self.untouched(number);
-        answer.second = fields
-            .iter()
-            .flat_map(|field| field.to_le_bytes())
-            .collect();
-        answer.second.extend(behind);
+    /// Of a call that writes to the places that the second list is.
+    fn in_places(&self, call: impl Fn(&mut [u32]) -> u8) -> Answer {
+        let (mut places, behind) = numbers_in(&self.second);
+        let mut answer = self.untouched(call(&mut places));
+        answer.second = [&bytes_of(&places), behind].concat();
         answer
+    }
+
+    /// The relations' numbers stand in the marking's place.
+    fn write_table(&self) -> Answer {
+        let (relations, _) = numbers_in(&self.marking);
+        let mut answer = self.untouched(0);
+        let (events, table) = (self.asked as usize, &mut answer.second);
+        answer.number = second::build_table(events, &self.first, &relations, table);
+        answer
+    }
+
+    /// What the number counts for: those of a set are no refusals.
+    fn seen(&self, answer: &Answer) -> Option<(&'static str, u8)> {
+        match CALLS[self.call].name {
+            "size" | "lowest" => None,
+            name => Some((name, answer.number)),
+        }
     }
 
     fn of_images(&self, t: &Table, m: &Marking) -> Answer {
@@ -349,7 +421,7 @@ pub fn run(
     words: &[String],
     cases: usize,
     seed: u64,
-) -> std::io::Result<Result<BTreeSet<u8>, Box<Difference>>> {
+) -> std::io::Result<Result<Seen, Box<Difference>>> {
     let mut child = crate::program::start(words)?;
     let mut input = child.stdin.take().expect("the input is a pipe");
     let mut output = std::io::BufReader::new(child.stdout.take().expect("the output is a pipe"));
@@ -365,7 +437,7 @@ pub fn run(
             }
         }
     });
-    let mut numbers = BTreeSet::new();
+    let mut seen = Seen::new();
     for question in handed {
         let expected = question.expected();
         let got = question.read(&mut output)?;
@@ -379,23 +451,30 @@ pub fn run(
                 got,
             })));
         }
-        if !matches!(CALLS[question.call].name, "size" | "lowest") {
-            numbers.insert(got.number);
-        }
+        seen.extend(question.seen(&got));
     }
     asking.join().expect("the questions were asked");
     let ended = child.wait()?;
     if ended.success() {
-        return Ok(Ok(numbers));
+        return Ok(Ok(seen));
     }
     Err(std::io::Error::other(format!(
         "the program ended with {ended}"
     )))
 }
 
-/// The numbers that did not come up.
-pub fn missing(numbers: &BTreeSet<u8>) -> Vec<u8> {
-    NUMBERS.filter(|number| !numbers.contains(number)).collect()
+/// The numbers that did not come up, and of which call they were wanted.
+pub fn missing(seen: &Seen) -> Vec<(&'static str, u8)> {
+    let some_call = |number| seen.iter().any(|found| found.1 == number);
+    let of_any = NUMBERS.filter(|&number| !some_call(number));
+    let of_calls = NUMBERS_OF
+        .iter()
+        .flat_map(|(name, numbers)| numbers.iter().map(|number| (*name, *number)))
+        .filter(|wanted| !seen.contains(wanted));
+    of_any
+        .map(|number| ("any call", number))
+        .chain(of_calls)
+        .collect()
 }
 
 #[cfg(test)]
@@ -405,25 +484,107 @@ mod tests {
     #[test]
     fn questions_of_every_call_bring_every_number_up() {
         let mut rng = Rng::new(1);
-        let mut numbers = BTreeSet::new();
+        let mut seen = Seen::new();
         for turn in 0..20_000 {
             let question = Question::random(&mut rng, turn % CALLS.len());
             let answer = question.expected();
             assert_eq!(answer.marking.len(), question.marking.len());
-            if !matches!(CALLS[question.call].name, "size" | "lowest") {
-                numbers.insert(answer.number);
-            }
+            assert_eq!(answer.second.len(), question.second.len());
+            seen.extend(question.seen(&answer));
         }
-        assert_eq!(missing(&numbers), Vec::<u8>::new());
+        assert_eq!(missing(&seen), []);
+        // No number besides: a call that gives one more has to be looked for too.
+        for (name, numbers) in NUMBERS_OF {
+            let given: Vec<u8> = seen
+                .iter()
+                .filter(|found| found.0 == name)
+                .map(|found| found.1)
+                .collect();
+            assert_eq!(given, numbers, "{name}");
+        }
+    }
+
+    #[test]
+    fn a_number_that_does_not_come_up_is_missed() {
+        let mut seen: Seen = NUMBERS.map(|number| ("run", number)).collect();
+        assert_eq!(missing(&seen).len(), 8 + 9 + 8);
+        for (name, numbers) in NUMBERS_OF {
+            seen.extend(numbers.iter().map(|&number| (name, number)));
+        }
+        assert_eq!(missing(&seen), []);
+        seen.remove(&("write_table", 14));
+        seen.remove(&("run", 13));
+        assert_eq!(missing(&seen), [("any call", 13), ("write_table", 14)]);
     }
 
     #[test]
     fn a_refused_question_touches_nothing() {
         let mut rng = Rng::new(2);
-        for turn in 0..2_000 {
-            let mut question = Question::random(&mut rng, 4 + turn % 13);
-            question.table = vec![0; 3];
-            assert_eq!(question.expected(), question.untouched(1));
+        let of_a_table = |call: &usize| {
+            let others = ["fresh", "size", "lowest", "write_table"];
+            !others.contains(&CALLS[*call].name)
+        };
+        for call in (0..CALLS.len()).filter(of_a_table) {
+            for _ in 0..150 {
+                let mut question = Question::random(&mut rng, call);
+                question.table = vec![0; 3];
+                assert_eq!(question.expected(), question.untouched(1));
+            }
         }
+    }
+
+    /// By its name, for a call whose number is to be looked at.
+    fn number_of(name: &str) -> usize {
+        let named = CALLS.iter().position(|call| call.name == name);
+        named.expect("there is such a call")
+    }
+
+    #[test]
+    fn a_table_is_written_from_the_lists_of_a_question() {
+        let mut question = Question {
+            call: number_of("write_table"),
+            asked: 2,
+            table: Vec::new(),
+            // Two bytes behind the last whole number are no number.
+            marking: [&bytes_of(&[2, 0, 0, 1, 1])[..], &[9, 9]].concat(),
+            first: vec![0x40, 0x80],
+            second: vec![7; 13],
+        };
+        let image = [4, 1, 0, 0, 0x40, 0x80, 0x40, 1, 0, 0, 0, 4, 7];
+        assert_eq!(question.expected().number, 0);
+        assert_eq!(question.expected().second, image);
+        // A number wider than its field is not cut down.
+        for (place, number) in [(0, 4), (1, 5), (2, 5), (3, 6), (4, 6)] {
+            let mut wide = question.clone();
+            let highest = 4 * place + 3;
+            wide.marking[highest] = 0x80;
+            assert_eq!(wide.expected(), wide.untouched(number));
+        }
+        question.asked += 1 << 32;
+        assert_eq!(question.expected(), question.untouched(3));
+    }
+
+    #[test]
+    fn numbers_are_told_in_the_lists_of_a_question() {
+        let mut question = Question {
+            call: number_of("relation"),
+            asked: 0,
+            table: vec![4, 1, 0, 0, 0x40, 0x80, 0x40, 1, 0, 0, 0, 4],
+            marking: vec![1, 2, 3],
+            first: Vec::new(),
+            second: vec![7; 21],
+        };
+        let told = question.expected();
+        let numbers = bytes_of(&[2, 0, 0, 1, 1]);
+        assert_eq!(
+            (told.number, told.second),
+            (0, [&numbers, &[7][..]].concat())
+        );
+        assert_eq!((told.small, told.marking), (BEFORE, vec![1, 2, 3]));
+        question.call = number_of("class");
+        question.asked = 1;
+        let told = question.expected();
+        assert_eq!((told.number, told.small), (0, 0x80));
+        assert_eq!(told.second, question.second);
     }
 }

@@ -29,7 +29,7 @@ const fn call(
     }
 }
 
-pub const CALLS: [Call; 21] = [
+pub const CALLS: [Call; 22] = [
     call(
         1,
         "read_table",
@@ -86,6 +86,12 @@ pub const CALLS: [Call; 21] = [
     call(19, "remedies", generate::remedies_case, edges::none),
     call(20, "run", generate::run_case, edges::none),
     call(21, "run_bytes", generate::run_bytes_case, edges::none),
+    call(
+        22,
+        "write_table",
+        generate::write_table_case,
+        edges::write_table,
+    ),
 ];
 
 /// The calls with these numbers, written as `1-6,9`; None if it is no such list.

@@ -62,6 +62,10 @@ const RELATION_COUNTS: [usize; 11] = [
 ];
 const RELATION_COUNTS_OF_AN_IMAGE: &[usize] = RELATION_COUNTS.split_at(7).0;
 
+/// The last four fit no image.
+const ALL_KINDS: [u8; 12] = [0, 1, 2, 3, 4, 5, 6, 7, 8, 9, 128, 255];
+const KINDS_OF_AN_IMAGE: &[u8] = ALL_KINDS.split_at(8).0;
+
 const SMALL: usize = 3;
 
 pub fn none() -> Vec<Case> {
@@ -363,8 +367,7 @@ fn images_by_bit() -> Vec<Vec<u8>> {
 }
 
 pub fn read_table() -> Vec<Case> {
-    let kinds: Vec<u8> = (0..8).collect();
-    let mut tables = tables_with_last(relations_by_kind(&kinds, TIMES_OF_AN_IMAGE));
+    let mut tables = tables_with_last(relations_by_kind(KINDS_OF_AN_IMAGE, TIMES_OF_AN_IMAGE));
     tables.extend(tables_by_ends(&[62, 63]));
     let mut images: Vec<Vec<u8>> = tables.iter().map(table_image).collect();
     images.extend(images_by_length());
@@ -428,6 +431,95 @@ pub fn write_marking() -> Vec<Case> {
     cases
 }
 
+/// The length of a table's image. Past the limits of its counts it has none,
+/// and a length past the limit will do.
+fn image_length(table: &Table) -> usize {
+    4 + table.events.min(66) + 6 * table.count.min(258)
+}
+
+fn write_table_of(table: &Table, length: usize) -> Case {
+    Case::WriteTable {
+        table: Box::new(*table),
+        buffer: (0..length).map(|place| 0xA5 ^ place as u8).collect(),
+    }
+}
+
+/// Tables with each class bit alone, and all bits set: those past the count are
+/// no event's.
+fn tables_by_class() -> Vec<Table> {
+    let mut all = Vec::new();
+    for event in 0..64 {
+        let mut alone = table(64, 1);
+        alone.controllable = 1 << event;
+        alone.causable = !(1 << event);
+        let mut every = table(event + 1, 1);
+        every.controllable = u64::MAX;
+        every.causable = u64::MAX;
+        all.extend([alone, every]);
+    }
+    all
+}
+
+/// Tables with each bit of a relation's time alone.
+fn tables_by_time() -> Vec<Table> {
+    let times = (0..32).map(|bit| 1 << bit);
+    let of = |time| Relation {
+        time,
+        bounded: true,
+        kind: 1,
+        ..Relation::EMPTY
+    };
+    tables_with_last(times.map(of).collect())
+}
+
+/// Sound tables whose places past the count are full.
+fn tables_with_unused_full() -> Vec<Table> {
+    let rubbish = Relation {
+        kind: 255,
+        left: 255,
+        right: 255,
+        bounded: true,
+        time: u32::MAX,
+    };
+    let mut all = Vec::new();
+    for count in [0, 1, 2, 254, 255, 256] {
+        let mut table = table(SMALL, count);
+        table.controllable = u64::MAX;
+        table.relations[count..].fill(rubbish);
+        all.push(table);
+    }
+    all
+}
+
+/// Every count and every fault, with room about the image's length: a table's
+/// own number comes before that of a short buffer.
+pub fn write_table() -> Vec<Case> {
+    let mut cases = Vec::new();
+    for events in EVENT_COUNTS {
+        for table in RELATION_COUNTS.map(|count| table(events, count)) {
+            for length in lengths_about(image_length(&table), 6) {
+                cases.push(write_table_of(&table, length));
+            }
+        }
+    }
+    let mut tables = faulty_tables();
+    tables.extend(tables_with_unused_full());
+    for table in &tables {
+        for length in lengths_about(image_length(table), 6) {
+            cases.push(write_table_of(table, length));
+        }
+        cases.push(write_table_of(table, 0));
+    }
+    let mut tables = tables_with_last(relations_by_kind(&ALL_KINDS, &TIMES));
+    tables.extend(tables_by_ends(&[62, 63, 64, 65, 127, 128, 200, 255]));
+    tables.extend(tables_by_class());
+    tables.extend(tables_by_time());
+    for table in &tables {
+        cases.push(write_table_of(table, image_length(table) + 3));
+    }
+    cases
+}
+
 pub fn fresh() -> Vec<Case> {
     (0..300)
         .chain(EVENT_COUNTS)
@@ -442,9 +534,7 @@ fn judge_table_of(table: Table) -> Case {
 }
 
 pub fn judge_table() -> Vec<Case> {
-    let mut kinds: Vec<u8> = (0..10).collect();
-    kinds.extend([128, 255]);
-    let mut tables = tables_with_last(relations_by_kind(&kinds, &TIMES));
+    let mut tables = tables_with_last(relations_by_kind(&ALL_KINDS, &TIMES));
     tables.extend(tables_by_ends(&[62, 63, 64, 65, 127, 128, 200, 255]));
     tables.extend(faulty_tables());
     for events in EVENT_COUNTS {
@@ -594,6 +684,7 @@ mod tests {
         assert_eq!(numbers(read_table()), [0, 1, 2, 3, 4, 5, 6]);
         assert_eq!(numbers(read_marking()), [0, 1, 3, 7]);
         assert_eq!(numbers(write_marking()), [0, 3, 7, 14]);
+        assert_eq!(numbers(write_table()), [0, 3, 4, 5, 6, 14]);
         assert_eq!(numbers(fresh()), [0, 3]);
         assert_eq!(numbers(judge_table()), [0, 3, 4, 5, 6]);
         assert_eq!(numbers(judge_marking()), [0, 1, 3, 7]);
@@ -612,6 +703,26 @@ mod tests {
     fn the_sound_values_are_sound() {
         assert_eq!(judge_table_of(table(64, 256)).answer().number(), 0);
         assert_eq!(judge_marking_of(64, marking(64)).answer().number(), 0);
+    }
+
+    /// Each number that a table of these cases gives is given in too short a
+    /// buffer as well.
+    #[test]
+    fn a_short_buffer_comes_last() {
+        let mut seen = BTreeSet::new();
+        for case in write_table() {
+            let Case::WriteTable { table, buffer } = &case else {
+                panic!("{} is another call", case.name());
+            };
+            let judged = judge_table_of(**table).answer().number();
+            let short = buffer.len() < image_length(table);
+            let expected = if judged == 0 && short { 14 } else { judged };
+            assert_eq!(case.answer().number(), expected);
+            if short {
+                seen.insert(judged);
+            }
+        }
+        assert_eq!(Vec::from_iter(seen), [0, 3, 4, 5, 6]);
     }
 
     #[test]

@@ -2,7 +2,9 @@
 //! tick has much to do. Nothing is compared here.
 
 use second::case::{Answer, Case, Pair};
-use second::{check, due, guarded_tick, HoldUpAnswer, MarginAnswer, Record, Relation};
+use second::{
+    check, due, guarded_tick, judge_table, HoldUpAnswer, MarginAnswer, Record, Relation, Table,
+};
 use std::collections::BTreeSet;
 
 const RESPONSE: u8 = 2;
@@ -19,15 +21,15 @@ fn record_fits_image(record: &Record) -> bool {
     record.age < 1 << 30 && record.deadline < 1 << 30
 }
 
-/// Whether the used places hold a value that no image can hold.
-fn past_an_image(pair: &Pair) -> bool {
-    let (table, marking) = (&pair.table, &pair.marking);
+/// Whether the table's used places hold a value that no image can hold.
+fn table_past_an_image(table: &Table) -> bool {
     let mut relations = table.relations.iter().take(table.count);
-    let mut records = marking.records.iter().take(marking.events);
-    table.events > 127
-        || table.count > 511
-        || !relations.all(fits_image)
-        || !records.all(record_fits_image)
+    table.events > 127 || table.count > 511 || !relations.all(fits_image)
+}
+
+fn past_an_image(pair: &Pair) -> bool {
+    let mut records = pair.marking.records.iter().take(pair.marking.events);
+    table_past_an_image(&pair.table) || !records.all(record_fits_image)
 }
 
 fn relations(pair: &Pair) -> impl Iterator<Item = (u8, usize, usize)> + '_ {
@@ -146,8 +148,39 @@ fn of_hold_up(answer: &HoldUpAnswer) -> &'static str {
     }
 }
 
+/// Of a table that is to be written, and the buffer lent for it. Past the limits
+/// of its counts there are no places, and no length that a buffer could have.
+fn of_written(table: &Table, buffer: &[u8]) -> Vec<&'static str> {
+    let counted = table.events < 65 && table.count < 257;
+    let (events, count) = (table.events.min(64), table.count.min(256));
+    let length = 4 + events + 6 * count;
+    let classes = u128::from(table.controllable | table.causable) >> events;
+    let mut unused = table.relations[count..].iter();
+    let fault = judge_table(table) != 0;
+    let shapes = [
+        ("past an image", table_past_an_image(table)),
+        ("classes past the count", counted && classes != 0),
+        (
+            "relations past the count",
+            counted && unused.any(|relation| *relation != Relation::EMPTY),
+        ),
+        ("room exact", counted && buffer.len() == length),
+        ("one byte short", counted && buffer.len() + 1 == length),
+        ("room to spare", counted && buffer.len() > length),
+        (
+            "a fault and too short",
+            counted && fault && buffer.len() < length,
+        ),
+    ];
+    let there = shapes.into_iter().filter(|shape| shape.1);
+    there.map(|shape| shape.0).collect()
+}
+
 /// The words for what is in the case and its answer.
 pub fn of(case: &Case, answer: &Answer) -> Vec<&'static str> {
+    if let Case::WriteTable { table, buffer } = case {
+        return of_written(table, buffer);
+    }
     let Some(pair) = case.pair() else {
         return Vec::new();
     };

@@ -131,6 +131,14 @@ pub fn payload(case: &Case) -> Vec<u8> {
             out.extend(answers);
         }
         Case::Station { input } => out.extend(input),
+        Case::WriteTable { table, buffer } => {
+            put_table(&mut out, table);
+            out.extend(buffer);
+        }
+        // The calls for C have a form of their own, in `boundary`.
+        Case::BuildTable { .. } | Case::TellRelation { .. } | Case::TellClass { .. } => {
+            unreachable!("{} is not on the wire", case.name())
+        }
     }
     out
 }
@@ -230,6 +238,9 @@ pub fn answer(case: &Case, answer: &Answer) -> Vec<u8> {
             out.extend(answers);
         }
         Answer::Station(output) => out.clone_from(output),
+        Answer::ToldRelation { .. } | Answer::ToldClass { .. } => {
+            unreachable!("{} is not on the wire", case.name())
+        }
     }
     out
 }

@@ -1,7 +1,7 @@
 //! Images in and out: a field is a shift of the word that holds it.
 
 use crate::decoded::{Marking, Record, Relation, Table};
-use crate::judge::{marking_number, record_fits, relation_number};
+use crate::judge::{judge_table, marking_number, record_fits, relation_number};
 
 const TICKS: u64 = (1 << 30) - 1;
 
@@ -69,6 +69,35 @@ pub fn read_table(image: &[u8], t: &mut Table) -> u8 {
             number
         }
     }
+}
+
+/// Of a relation the bits before its time: kind, left, right, bounded.
+#[inline]
+fn ends_of(k: &Relation) -> u16 {
+    let ends = u16::from(k.kind) << 6 | u16::from(k.left);
+    (ends << 6 | u16::from(k.right)) << 1 | u16::from(k.bounded)
+}
+
+pub fn write_table(t: &Table, buffer: &mut [u8]) -> u8 {
+    match judge_table(t) {
+        0 => {}
+        number => return number,
+    }
+    if buffer.len() < 4 + t.events + 6 * t.count {
+        return 14;
+    }
+    let (header, rest) = buffer.split_at_mut(4);
+    let (classes, relations) = rest.split_at_mut(t.events);
+    header.copy_from_slice(&((t.events as u32) << 25 | (t.count as u32) << 16).to_be_bytes());
+    for (event, class) in classes.iter_mut().enumerate() {
+        *class = (t.controllable >> event & 1) as u8 * 128 + (t.causable >> event & 1) as u8 * 64;
+    }
+    for (k, bytes) in t.used().iter().zip(relations.chunks_exact_mut(6)) {
+        let (high, low) = bytes.split_at_mut(2);
+        high.copy_from_slice(&ends_of(k).to_be_bytes());
+        low.copy_from_slice(&(k.time << 2).to_be_bytes());
+    }
+    0
 }
 
 fn record_of(bytes: &[u8]) -> Record {

@@ -28,7 +28,7 @@ pub use check::{check, closure, Closure, Verdict};
 pub use decoded::{Marking, Record, Relation, Table};
 pub use enabled::{enabled, hold_up, margin, HoldUp, Margin};
 pub use guarded::{guarded_tick, Guarded};
-pub use image::{fresh, read_marking, read_table, write_marking};
+pub use image::{fresh, read_marking, read_table, write_marking, write_table};
 pub use judge::{judge_marking, judge_table};
 pub use remedies::{remedies, Remedy};
 pub use time::{due, plain_tick};

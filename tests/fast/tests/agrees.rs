@@ -145,6 +145,11 @@ fn answer(case: &Case) -> Option<Answer> {
             let number = fast::write_marking(&marking(m), &mut buffer);
             Answer::Written { number, buffer }
         }
+        Case::WriteTable { table: t, buffer } => {
+            let mut buffer = buffer.clone();
+            let number = fast::write_table(&table(t), &mut buffer);
+            Answer::Written { number, buffer }
+        }
         Case::JudgeTable { table: t } => Answer::Number(fast::judge_table(&table(t))),
         Case::JudgeMarking { events, marking: m } => {
             Answer::Number(fast::judge_marking(*events, &marking(m)))
@@ -260,7 +265,12 @@ fn answer(case: &Case) -> Option<Answer> {
             steps,
             answers,
         } => run(pair, steps, answers),
-        Case::Size { .. } | Case::Lowest { .. } | Case::Station { .. } => return None,
+        Case::Size { .. }
+        | Case::Lowest { .. }
+        | Case::Station { .. }
+        | Case::BuildTable { .. }
+        | Case::TellRelation { .. }
+        | Case::TellClass { .. } => return None,
     })
 }
 
@@ -304,7 +314,7 @@ fn cases_at_the_limits_agree() {
             }
         }
     }
-    assert_eq!(asked.len(), 16);
+    assert_eq!(asked.len(), 17);
 }
 
 /// How often each number comes up among the answers to steps of one kind.

@@ -89,6 +89,18 @@ impl Calls for Baseline {
         sum
     }
 
+    fn write_table(&self, table: &[u8], buffer: &mut [u8], times: usize) -> u64 {
+        let mut t = Table::EMPTY;
+        fast::read_table(table, &mut t);
+        let mut sum = 1;
+        for _ in 0..times {
+            t.controllable = sum;
+            sum = taken(sum, fast::write_table(&t, buffer).into());
+            sum = taken(sum, buffer[5].into());
+        }
+        sum
+    }
+
     fn read_marking(&self, events: usize, image: &mut [u8], times: usize) -> u64 {
         let mut m = Marking::EMPTY;
         let mut sum = 1;

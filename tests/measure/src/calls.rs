@@ -5,6 +5,7 @@
 
 pub trait Calls {
     fn read_table(&self, image: &mut [u8], times: usize) -> u64;
+    fn write_table(&self, table: &[u8], buffer: &mut [u8], times: usize) -> u64;
     fn read_marking(&self, events: usize, image: &mut [u8], times: usize) -> u64;
     fn write_marking(&self, events: usize, marking: &[u8], buffer: &mut [u8], times: usize) -> u64;
     fn fresh(&self, times: usize) -> u64;

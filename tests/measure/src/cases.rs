@@ -86,8 +86,11 @@ pub struct Case {
     pub run: fn(&mut Input, &dyn Calls, usize) -> u64,
 }
 
-pub const CASES: [Case; 21] = [
+pub const CASES: [Case; 22] = [
     case("read_table", |i, side, n| side.read_table(&mut i.table, n)),
+    case("write_table", |i, side, n| {
+        side.write_table(&i.table, &mut i.buffer, n)
+    }),
     case("read_marking", |i, side, n| {
         side.read_marking(i.size.events, &mut i.quiet, n)
     }),

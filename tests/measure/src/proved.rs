@@ -6,6 +6,7 @@ use measure::calls::Calls;
 #[link(name = "timing", kind = "static")]
 extern "C" {
     fn timing_read_table(i: *mut u8, n: usize, times: usize) -> u64;
+    fn timing_write_table(t: *const u8, tn: usize, b: *mut u8, bn: usize, times: usize) -> u64;
     fn timing_read_marking(events: usize, i: *mut u8, n: usize, times: usize) -> u64;
     fn timing_write_marking(
         events: usize,
@@ -89,6 +90,10 @@ impl Calls for Proved {
 
     fn read_table(&self, i: &mut [u8], times: usize) -> u64 {
         unsafe { timing_read_table(i.as_mut_ptr(), i.len(), times) }
+    }
+
+    fn write_table(&self, t: &[u8], b: &mut [u8], times: usize) -> u64 {
+        unsafe { timing_write_table(t.as_ptr(), t.len(), b.as_mut_ptr(), b.len(), times) }
     }
 
     fn read_marking(&self, events: usize, i: &mut [u8], times: usize) -> u64 {

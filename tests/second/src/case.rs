@@ -3,11 +3,11 @@
 //! case when their answers are equal.
 
 use crate::{
-    check, closure, due, enabled, fresh, guarded_tick, hold_up, judge_marking, judge_table, lowest,
-    margin, plain_tick, read_marking, read_table, remedies, report, request, run, run_bytes, size,
-    station, write_marking, CheckAnswer, ClosureAnswer, EnabledAnswer, GuardedAnswer, HoldUpAnswer,
-    MarginAnswer, Marking, MarkingAnswer, ReadMarking, ReadTable, RemedyAnswer, SetAnswer, Step,
-    Table,
+    build_table, check, closure, due, enabled, fresh, guarded_tick, hold_up, judge_marking,
+    judge_table, lowest, margin, plain_tick, read_marking, read_table, remedies, report, request,
+    run, run_bytes, size, station, tell_class, tell_relation, write_marking, write_table,
+    CheckAnswer, ClosureAnswer, EnabledAnswer, GuardedAnswer, HoldUpAnswer, MarginAnswer, Marking,
+    MarkingAnswer, ReadMarking, ReadTable, RemedyAnswer, SetAnswer, Step, Table,
 };
 
 /// The table and marking that most calls are handed. They may be faulty.
@@ -99,6 +99,26 @@ pub enum Case {
     Station {
         input: Vec<u8>,
     },
+    WriteTable {
+        table: Box<Table>,
+        buffer: Vec<u8>,
+    },
+    BuildTable {
+        events: usize,
+        classes: Vec<u8>,
+        relations: Vec<u32>,
+        buffer: Vec<u8>,
+    },
+    TellRelation {
+        image: Vec<u8>,
+        relation: usize,
+        places: Vec<u32>,
+    },
+    TellClass {
+        image: Vec<u8>,
+        event: usize,
+        place: u8,
+    },
 }
 
 #[derive(Clone, PartialEq, Eq, Debug)]
@@ -126,6 +146,14 @@ pub enum Answer {
         answers: Vec<u8>,
     },
     Station(Vec<u8>),
+    ToldRelation {
+        number: u8,
+        places: Vec<u32>,
+    },
+    ToldClass {
+        number: u8,
+        place: u8,
+    },
 }
 
 impl Answer {
@@ -134,7 +162,9 @@ impl Answer {
         match self {
             Answer::ReadTable(answer) => answer.number,
             Answer::ReadMarking(answer) => answer.number,
-            Answer::Written { number, .. } => *number,
+            Answer::Written { number, .. }
+            | Answer::ToldRelation { number, .. }
+            | Answer::ToldClass { number, .. } => *number,
             Answer::Number(number) => *number,
             Answer::Count(_) => 0,
             Answer::Enabled(answer) => answer.number,
@@ -183,6 +213,10 @@ impl Case {
             Case::Run { .. } => "run",
             Case::RunBytes { .. } => "run_bytes",
             Case::Station { .. } => "station",
+            Case::WriteTable { .. } => "write_table",
+            Case::BuildTable { .. } => "build_table",
+            Case::TellRelation { .. } => "tell_relation",
+            Case::TellClass { .. } => "tell_class",
         }
     }
 
@@ -210,7 +244,11 @@ impl Case {
             | Case::JudgeMarking { .. }
             | Case::Size { .. }
             | Case::Lowest { .. }
-            | Case::Station { .. } => None,
+            | Case::Station { .. }
+            | Case::WriteTable { .. }
+            | Case::BuildTable { .. }
+            | Case::TellRelation { .. }
+            | Case::TellClass { .. } => None,
         }
     }
 
@@ -287,6 +325,39 @@ impl Case {
                 }
             }
             Case::Station { input } => Answer::Station(station(input)),
+            Case::WriteTable { table, buffer } => {
+                let mut buffer = buffer.clone();
+                let number = write_table(table, &mut buffer);
+                Answer::Written { number, buffer }
+            }
+            Case::BuildTable {
+                events,
+                classes,
+                relations,
+                buffer,
+            } => {
+                let mut buffer = buffer.clone();
+                let number = build_table(*events, classes, relations, &mut buffer);
+                Answer::Written { number, buffer }
+            }
+            Case::TellRelation {
+                image,
+                relation,
+                places,
+            } => {
+                let mut places = places.clone();
+                let number = tell_relation(image, *relation, &mut places);
+                Answer::ToldRelation { number, places }
+            }
+            Case::TellClass {
+                image,
+                event,
+                place,
+            } => {
+                let mut place = *place;
+                let number = tell_class(image, *event, &mut place);
+                Answer::ToldClass { number, place }
+            }
         }
     }
 }

@@ -2,23 +2,24 @@
 //! mixed so that every refusal number and every reason of the check comes up.
 
 mod damage;
+mod plain_numbers;
 mod shape;
 
+pub use crate::writing::{marking_image, table_image};
+pub use plain_numbers::{build_table_case, tell_class_case, tell_relation_case};
 pub use shape::relation;
 
-use crate::bits::BitWriter;
 use crate::case::{Case, Pair};
-use crate::decoded::{Marking, Record, Relation, Table, MOST_EVENTS, MOST_RELATIONS};
+use crate::decoded::{Marking, Table, MOST_EVENTS, MOST_RELATIONS};
 use crate::event_set::from_word;
 use crate::guarded::guarded_tick;
-use crate::image::put_record;
 use crate::rng::Rng;
 use crate::trace::{Step, LONGEST_TRACE};
 
 type Question = fn(&mut Rng) -> Case;
 
 /// The calls with the most behaviour are listed twice, to be asked more often.
-const QUESTIONS: [Question; 27] = [
+const QUESTIONS: [Question; 32] = [
     read_table_case,
     read_marking_case,
     write_marking_case,
@@ -46,6 +47,11 @@ const QUESTIONS: [Question; 27] = [
     run_bytes_case,
     station_case,
     station_case,
+    write_table_case,
+    write_table_case,
+    build_table_case,
+    tell_relation_case,
+    tell_class_case,
 ];
 
 /// A case of any call.
@@ -88,48 +94,6 @@ fn pair_damaged_in(rng: &mut Rng, percent: usize) -> Pair {
         }
     }
     pair
-}
-
-/// The image of a table as it stands, judged or not. Counts are cut to what
-/// the header can hold, and the image is as long as its counts then ask.
-pub fn table_image(table: &Table) -> Vec<u8> {
-    let events = table.events.min(127);
-    let count = table.count.min(511);
-    let mut writer = BitWriter::new();
-    writer.put(events as u32, 7);
-    writer.put(count as u32, 9);
-    writer.put(0, 16);
-    let controllable = from_word(table.controllable, MOST_EVENTS);
-    let causable = from_word(table.causable, MOST_EVENTS);
-    for event in 0..events {
-        writer.put_flag(controllable.contains(&event));
-        writer.put_flag(causable.contains(&event));
-        writer.put(0, 6);
-    }
-    for number in 0..count {
-        let relation = table
-            .relations
-            .get(number)
-            .copied()
-            .unwrap_or(Relation::EMPTY);
-        writer.put(u32::from(relation.kind), 3);
-        writer.put(u32::from(relation.left), 6);
-        writer.put(u32::from(relation.right), 6);
-        writer.put_flag(relation.bounded);
-        writer.put(relation.time, 30);
-        writer.put(0, 2);
-    }
-    writer.into_bytes()
-}
-
-/// The image of a marking as it stands, judged or not.
-pub fn marking_image(marking: &Marking) -> Vec<u8> {
-    let mut writer = BitWriter::new();
-    for event in 0..marking.events.min(127) {
-        let record = marking.records.get(event).copied();
-        put_record(&mut writer, &record.unwrap_or(Record::EMPTY));
-    }
-    writer.into_bytes()
 }
 
 /// A table image, damaged in so many of a hundred cases.
@@ -372,6 +336,22 @@ pub fn write_marking_case(rng: &mut Rng) -> Case {
     }
     let buffer = some_buffer(rng, 8 * marking.events.min(70));
     Case::WriteMarking { marking, buffer }
+}
+
+/// A table image's length at these counts. The counts may be any: past their
+/// limits a few bytes more are enough for a buffer that is not too short.
+fn room_for_table(events: usize, relations: usize) -> usize {
+    4 + events.min(MOST_EVENTS + 2) + 6 * relations.min(MOST_RELATIONS + 2)
+}
+
+/// Half the tables have rubbish in their unused places.
+pub fn write_table_case(rng: &mut Rng) -> Case {
+    let mut table = sound_pair(rng).table;
+    if rng.chance(45) {
+        damage::damage_table(rng, &mut table);
+    }
+    let buffer = some_buffer(rng, room_for_table(table.events, table.count));
+    Case::WriteTable { table, buffer }
 }
 
 pub fn fresh_case(rng: &mut Rng) -> Case {

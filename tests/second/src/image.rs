@@ -1,12 +1,10 @@
-//! The bit-packed images of table and marking.
+//! Reading the bit-packed images of table and marking.
 
-use crate::bits::{BitReader, BitWriter};
+use crate::bits::BitReader;
 use crate::decoded::{Marking, ReadMarking, ReadTable, Record, Relation, Table};
 use crate::event_set::{self, EventSet};
-use crate::judge::{
-    judge_counts, judge_event_count, understand_marking, understand_record, understand_relation,
-};
-use crate::refusal::{DONE, LENGTH, SPARE_BIT, TOO_LONG_OR_SHORT};
+use crate::judge::{judge_counts, judge_event_count, understand_record, understand_relation};
+use crate::refusal::{DONE, LENGTH, SPARE_BIT};
 
 const HEADER_BYTES: usize = 4;
 const RELATION_BYTES: usize = 6;
@@ -37,6 +35,27 @@ pub fn length_the_header_says(bytes: &[u8]) -> usize {
     table_length(header.events, header.relations)
 }
 
+/// The class bytes of so many events: the controllable and the causable ones.
+pub fn take_classes(cursor: &mut BitReader, events: usize) -> Result<(u64, u64), u8> {
+    let mut controllable = EventSet::new();
+    let mut causable = EventSet::new();
+    for event in 0..events {
+        if cursor.take_flag() {
+            controllable.insert(event);
+        }
+        if cursor.take_flag() {
+            causable.insert(event);
+        }
+        if cursor.take(6) != 0 {
+            return Err(SPARE_BIT);
+        }
+    }
+    Ok((
+        event_set::to_word(&controllable),
+        event_set::to_word(&causable),
+    ))
+}
+
 fn decode_table(bytes: &[u8]) -> Result<Table, u8> {
     if bytes.len() < HEADER_BYTES {
         return Err(LENGTH);
@@ -55,21 +74,7 @@ fn decode_table(bytes: &[u8]) -> Result<Table, u8> {
     table.events = header.events;
     table.count = header.relations;
 
-    let mut controllable = EventSet::new();
-    let mut causable = EventSet::new();
-    for event in 0..header.events {
-        if cursor.take_flag() {
-            controllable.insert(event);
-        }
-        if cursor.take_flag() {
-            causable.insert(event);
-        }
-        if cursor.take(6) != 0 {
-            return Err(SPARE_BIT);
-        }
-    }
-    table.controllable = event_set::to_word(&controllable);
-    table.causable = event_set::to_word(&causable);
+    (table.controllable, table.causable) = take_classes(&mut cursor, header.events)?;
 
     for place in table.relations.iter_mut().take(header.relations) {
         let relation = Relation {
@@ -119,15 +124,6 @@ fn decode_marking(events: usize, bytes: &[u8]) -> Result<Marking, u8> {
     Ok(marking)
 }
 
-pub fn put_record(writer: &mut BitWriter, record: &Record) {
-    writer.put_flag(record.happened);
-    writer.put(record.age, 30);
-    writer.put_flag(record.included);
-    writer.put_flag(record.pending);
-    writer.put_flag(record.bounded);
-    writer.put(record.deadline, 30);
-}
-
 pub fn read_table(bytes: &[u8]) -> ReadTable {
     match decode_table(bytes) {
         Ok(table) => ReadTable {
@@ -143,24 +139,4 @@ pub fn read_table(bytes: &[u8]) -> ReadTable {
 
 pub fn read_marking(events: usize, bytes: &[u8]) -> ReadMarking {
     ReadMarking::from_result(decode_marking(events, bytes))
-}
-
-/// Writes to the first 8 × events bytes and leaves the later ones.
-pub fn write_marking(marking: &Marking, buffer: &mut [u8]) -> u8 {
-    // Written alone, the marking is judged against its own event count.
-    if let Err(number) = understand_marking(marking.events, marking) {
-        return number;
-    }
-    let mut writer = BitWriter::new();
-    for record in marking.records.iter().take(marking.events) {
-        put_record(&mut writer, record);
-    }
-    let image = writer.into_bytes();
-    match buffer.get_mut(..image.len()) {
-        Some(start) => {
-            start.copy_from_slice(&image);
-            DONE
-        }
-        None => TOO_LONG_OR_SHORT,
-    }
 }

@@ -1,8 +1,9 @@
 //! The station program, from its whole input to its whole output.
 
-use crate::image::{length_the_header_says, read_marking, read_table, write_marking, RECORD_BYTES};
+use crate::image::{length_the_header_says, read_marking, read_table, RECORD_BYTES};
 use crate::refusal::DONE;
 use crate::trace::run_bytes;
+use crate::writing::write_marking;
 
 /// The first `length` bytes and the rest, or everything and nothing if there
 /// are not so many: the reader then refuses the length.

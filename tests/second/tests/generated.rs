@@ -21,8 +21,8 @@ fn for_each_case(mut look_at: impl FnMut(&Case, &Answer)) {
 }
 
 /// Every number that a call can give. Decoded values have no spare bits, so 2
-/// is for the two that read table images.
-const NUMBERS: [(&str, &[u8]); 22] = [
+/// is for those that read table images or class bytes.
+const NUMBERS: [(&str, &[u8]); 26] = [
     ("read_table", &[0, 1, 2, 3, 4, 5, 6]),
     ("read_marking", &[0, 1, 3, 7]),
     ("write_marking", &[0, 3, 7, 14]),
@@ -45,6 +45,10 @@ const NUMBERS: [(&str, &[u8]); 22] = [
     ("run", &[0, 1, 3, 4, 5, 6, 7, 14]),
     ("run_bytes", &[0, 1, 3, 4, 5, 6, 7, 14]),
     ("station", &[0, 1, 2, 3, 4, 5, 6, 7, 14]),
+    ("write_table", &[0, 3, 4, 5, 6, 14]),
+    ("build_table", &[0, 1, 2, 3, 4, 5, 6, 14]),
+    ("tell_relation", &[0, 1, 2, 3, 4, 5, 6, 8, 14]),
+    ("tell_class", &[0, 1, 2, 3, 4, 5, 6, 8]),
 ];
 
 /// What the trace runner can answer for a step.
@@ -354,6 +358,128 @@ fn bad_guarded_ticks_are_noticed() {
     assert_eq!(noticed.len(), 6);
 }
 
+/// The image of a table over as much of a buffer as there is, whatever stands
+/// in the way.
+fn image_over(table: &Table, buffer: &[u8]) -> Vec<u8> {
+    let mut buffer = buffer.to_vec();
+    for (place, byte) in buffer.iter_mut().zip(generate::table_image(table)) {
+        *place = byte;
+    }
+    buffer
+}
+
+/// Answers of bad writers. None where the answer happens to be right.
+fn bad_written_tables(
+    table: &Table,
+    before: &[u8],
+    number: u8,
+    after: &[u8],
+) -> Vec<(&'static str, u8, Vec<u8>)> {
+    let mut bad = vec![
+        ("refuses everything", 14, before.to_vec()),
+        ("does nothing", 0, before.to_vec()),
+        ("gives a constant answer", 0, vec![0; before.len()]),
+    ];
+    if number != 0 {
+        bad.push(("writes on a refusal", number, image_over(table, before)));
+        bad.push(("writes what it should refuse", 0, image_over(table, before)));
+    }
+    let length = 4 + table.events.min(64) + 6 * table.count.min(256);
+    if before.len() < length {
+        bad.push(("gives 14 first", 14, before.to_vec()));
+    }
+    if number == 0 {
+        let mut zeroed = after.to_vec();
+        zeroed[length..].fill(0);
+        bad.push(("zeroes later bytes", 0, zeroed));
+        let mut spare = after.to_vec();
+        spare[2..4].copy_from_slice(&before[2..4]);
+        bad.push(("leaves spare bits as they were", 0, spare));
+        // Classes of one set only, in both bits.
+        let mut mixed = *table;
+        mixed.causable = mixed.controllable;
+        bad.push(("mixes the classes up", 0, image_over(&mixed, before)));
+        let mut fewer = *table;
+        fewer.count = fewer.count.saturating_sub(1);
+        bad.push((
+            "leaves the last relation out",
+            0,
+            image_over(&fewer, before),
+        ));
+    }
+    bad.retain(|(_, bad_number, buffer)| (*bad_number, buffer.as_slice()) != (number, after));
+    bad
+}
+
+#[test]
+fn bad_table_writers_are_noticed() {
+    let mut noticed = Counts::new();
+    let mut missed = Counts::new();
+    for_each_case(|case, answer| {
+        let (
+            Case::WriteTable {
+                table,
+                buffer: before,
+            },
+            Answer::Written { number, buffer },
+        ) = (case, answer)
+        else {
+            return;
+        };
+        for (name, number, buffer) in bad_written_tables(table, before, *number, buffer) {
+            match promise(case, &Answer::Written { number, buffer }) {
+                Err(_) => count(&mut noticed, name),
+                Ok(()) => count(&mut missed, name),
+            }
+        }
+    });
+    println!("noticed: {noticed:?}, missed: {missed:?}");
+    assert!(missed.is_empty(), "{missed:?}");
+    assert_eq!(noticed.len(), 10);
+    assert!(noticed.values().all(|&times| times >= 5), "{noticed:?}");
+}
+
+/// Numbers cut down to their fields before they are judged, as a careless
+/// builder would have them.
+fn cut_down(relations: &[u32]) -> Vec<u32> {
+    let widths = [3, 6, 6, 1, 30].iter().cycle();
+    relations
+        .iter()
+        .zip(widths)
+        .map(|(number, width)| number % 2u32.pow(*width))
+        .collect()
+}
+
+#[test]
+fn a_builder_that_cuts_numbers_down_is_noticed() {
+    let mut noticed = Counts::new();
+    for_each_case(|case, answer| {
+        let Case::BuildTable {
+            events,
+            classes,
+            relations,
+            buffer,
+        } = case
+        else {
+            return;
+        };
+        let mut bad = buffer.clone();
+        let number = build_table(*events, classes, &cut_down(relations), &mut bad);
+        if number != answer.number() {
+            let bad = Answer::Written {
+                number,
+                buffer: bad,
+            };
+            assert!(promise(case, &bad).is_err());
+            count(&mut noticed, answer.number());
+        }
+    });
+    println!("noticed: {noticed:?}");
+    for number in [4, 5, 6] {
+        assert!(noticed.contains_key(&number), "{noticed:?}");
+    }
+}
+
 /// One small change to an answer, if there is a sort of it for this call.
 fn tampered(answer: &Answer) -> Option<Answer> {
     let mut answer = answer.clone();
@@ -390,6 +516,8 @@ fn tampered(answer: &Answer) -> Option<Answer> {
         Answer::Remedy(remedy) => remedy.length += 1,
         Answer::Run { answers, .. } => *answers.last_mut()? ^= 1,
         Answer::Station(output) => *output.last_mut()? ^= 1,
+        Answer::ToldRelation { places, .. } => *places.last_mut()? ^= 1,
+        Answer::ToldClass { place, .. } => *place ^= 1,
     }
     Some(answer)
 }

@@ -3,8 +3,8 @@ use mathlib.Core.Path.{_∙_}
 use Rattle.rules.specs.declared.EnabledAnswer.{EnabledAnswer}
 use Rattle.rules.specs.Fields.{bit}
 use Rattle.rules.specs.Enabled.{enabledAnswer}
+use Rattle.image.specs.Laws.Packed.{flag-byte}
 use Rattle.duty.specs.Laws.Answered.{left, ruled, told-number, told-value}
-use Rattle.duty.proofs.Bit.{as-bit}
 use borrow.Author.Needs.{needs}
 use Rattle.duty.proofs.duty_enabled.Statement.{statement}
 use Rattle.duty.proofs.duty_enabled.Tie as tie
@@ -29,7 +29,7 @@ returns c =
     let by =
     ruled (a .table .now) (a .marking .now) (read .result) (read .ensures) (λ t m. enabledAnswer t m (a .event)) (answer .result) (answer .ensures) in (
       told-number (a .table .now) (a .marking .now) (read .result) (read .ensures) (λ (s : EnabledAnswer). s .number) by (c .before .before .first-of .ensures),
-      as-bit (answer .result .enabled) ∙ told-value (λ (s : EnabledAnswer). bit (s .enabled)) by (c .before .if1 .taken) _,
+      flag-byte (answer .result .enabled) ∙ told-value (λ (s : EnabledAnswer). bit (s .enabled)) by (c .before .if1 .taken) _,
     )
 
 returns-2 : tie.Need-returns-2

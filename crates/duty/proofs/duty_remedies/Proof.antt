@@ -8,8 +8,8 @@ use Rattle.rules.specs.Fields.{bit}
 use Rattle.rules.specs.Remedy.{remedy}
 use Rattle.rules.specs.Laws.Numbers.{else-done}
 use Rattle.rules.specs.Images.{imagesNumber, on}
+use Rattle.image.specs.Laws.Packed.{flag-byte}
 use Rattle.duty.specs.Laws.Answered.{left, unread, judged-read, ruled, told-number, told-value}
-use Rattle.duty.proofs.Bit.{as-bit}
 use borrow.Author.Needs.{needs}
 use Rattle.duty.proofs.duty_remedies.Statement.{statement}
 use Rattle.duty.proofs.duty_remedies.Tie as tie
@@ -61,7 +61,7 @@ returns c =
     let taken = c .before .if2 .taken in (
       number at,
       (
-        as-bit (at .offered .result .fallback) ∙ told-value (λ (r : RemedyAnswer). bit (r .fallback)) by taken _,
+        flag-byte (at .offered .result .fallback) ∙ told-value (λ (r : RemedyAnswer). bit (r .fallback)) by taken _,
         told-value (λ (r : RemedyAnswer). r .length) by taken _,
       ),
     )

@@ -1,32 +1,19 @@
--- The fields of a record: the numbers before they are told, reading, then the event, then the room; and the six places that they take.
--- Assumes nothing.
-use mathlib.Core.Path.{_≡_, refl, _∙_, ap, sym}
+-- The fields of a record: the numbers before they are told, reading, then the event, then the room. Assumes nothing.
+use mathlib.Core.Path.{_≡_, _∙_, ap, sym}
 use mathlib.Core.Bool.{not}
-use mathlib.Core.List.{List, [], _∷_, _++_}
+use mathlib.Core.List.{List, _++_}
 use Prim.Native.Nat.{ℕ, _<_, _≤_}
 use native.Mathlib.Omega.{arith}
 use lib.Dec.{ltb}
-use lib.ListN.{length, drop, set}
-use borrow.Author.Tests.{ltb-true, ltb-false, not-false}
+use lib.ListN.{length, drop}
 use Rattle.rules.specs.Numbers.{_if_, _else_}
 use Rattle.rules.specs.Holds.{recordOf}
 use Rattle.rules.specs.Images.{recordFields, fieldsNumber, fieldsTold}
-use Rattle.rules.specs.Laws.Numbers.{if-done, both-done}
 use Rattle.rules.specs.Laws.Judge.{good}
 use Rattle.duty.specs.declared.images.Images.{Images}
 use Rattle.duty.specs.Reading.{images}
 use Rattle.duty.specs.Laws.Answered.{left, judged-read}
-
--- six places, one by one
-pub six-put : (l : List ℕ) (a b c d e f : ℕ) → 6 ≤ length l
-    → set (set (set (set (set (set l 0 a) 1 b) 2 c) 3 d) 4 e) 5 f ≡ (a ∷ b ∷ c ∷ d ∷ e ∷ f ∷ []) ++ drop 6 l
-six-put [] a b c d e f h = absurd (omega (arith, h))
-six-put (p ∷ []) a b c d e f h = absurd (omega (arith, h))
-six-put (p ∷ q ∷ []) a b c d e f h = absurd (omega (arith, h))
-six-put (p ∷ q ∷ r ∷ []) a b c d e f h = absurd (omega (arith, h))
-six-put (p ∷ q ∷ r ∷ s ∷ []) a b c d e f h = absurd (omega (arith, h))
-six-put (p ∷ q ∷ r ∷ s ∷ t ∷ []) a b c d e f h = absurd (omega (arith, h))
-six-put (p ∷ q ∷ r ∷ s ∷ t ∷ u ∷ rest) a b c d e f h = refl
+use Rattle.duty.specs.Laws.Told.{was-read, asked-exists, room-there}
 
 module _ (table marking : List ℕ) (read : Images) (read-is : read ≡ images table marking) (event : ℕ) (before : List ℕ) {asked number : ℕ}
     (asked-is : asked ≡ (8 if not (ltb event (read .table .events)) else 14 if ltb (length before) 6))
@@ -43,19 +30,14 @@ module _ (table marking : List ℕ) (read : Images) (read-is : read ≡ images t
   fields-left h = left (fieldsNumber table marking event (length before)) _ before (λ z. h (fields-number ∙ z))
 
   module _ (h : number ≡ 0) where
-    parts : (read .number ≡ 0) × ((8 if not (ltb event (read .table .events))) ≡ 0) × ((14 if ltb (length before) 6) ≡ 0)
-    parts =
-        let p = both-done (read .number) asked (sym number-is ∙ h) in
-        let q = both-done (8 if not (ltb event (read .table .events))) (14 if ltb (length before) 6) (sym asked-is ∙ p .1) in
-        (p .0, q .0, q .1)
-
     pub event-there : event < 64
     event-there =
-        let exists = ltb-true event (read .table .events) (not-false _ (if-done 7 _ (parts .1))) in
-        omega (arith, exists, good _ _ (judged-read table marking read read-is (parts .0)) .table-good .few-events)
+        let read-done = was-read (read .number) (read .table .events) event (length before) 6 asked-is number-is h in
+        let exists = asked-exists (read .number) (read .table .events) event (length before) 6 asked-is number-is h in
+        omega (arith, exists, good _ _ (judged-read table marking read read-is read-done) .table-good .few-events)
 
-    pub room-there : 6 ≤ length before
-    room-there = ltb-false (length before) 6 (if-done 13 _ (parts .2))
+    pub fields-room : 6 ≤ length before
+    fields-room = room-there (read .number) (read .table .events) event (length before) 6 asked-is number-is h
 
     pub fields-put : (after : List ℕ) → after ≡ recordFields (recordOf (read .marking) event) ++ drop 6 before
         → after ≡ fieldsTold table marking event before

@@ -1,5 +1,5 @@
--- The fields of a relation and of a record are parts of the one number that their bytes hold: the law of fields, cited at each width.
--- Assumes nothing.
+-- The fields of a relation and of a record are parts of the one number that their bytes hold: the law of fields, cited at each width. What an
+-- image has of them are the bytes of that number. Assumes nothing.
 use mathlib.Core.Path.{_≡_, refl}
 use mathlib.Core.Bool.{Bool, true, false, cond}
 use mathlib.Core.List.{List}
@@ -7,18 +7,32 @@ use Prim.Native.Nat.{ℕ, _+_, _^_, _<_}
 use native.Mathlib.Nat.{lt-of-le-of-lt}
 use native.Mathlib.Omega.{arith}
 use lib.Dec.{eqb, leb}
+use mir.Val.{boolByte}
 use borrow.Author.Tests.{leb-true}
+use Rattle.rules.specs.declared.Relation.{Relation}
 use Rattle.rules.specs.declared.Record.{Record}
 use Rattle.rules.specs.Holds.{limit}
 use Rattle.rules.specs.Fields.{field, bit, bytesOf}
 use Rattle.rules.specs.Judge.{recordFits, recordNumber}
-use Rattle.rules.specs.Image.{relationAt, recordAt, recordBytes, recordImage}
+use Rattle.rules.specs.Image.{relationAt, relationImage, recordAt, recordBytes, recordImage}
 use Rattle.rules.specs.Laws.Tests.{both, not-false}
 use Rattle.rules.specs.Laws.Numbers.{if-done}
 use Rattle.rules.specs.Laws.Fields.{field-lt, field-join, field-part, first-part, last-part, field-ends, flag-bit, bit-flag, bit-lt}
-use Rattle.image.specs.Packed.{relationOfWord, recordOfWord, wordOfRecord}
+use Rattle.image.specs.Packed.{relationOfWord, wordOfRelation, recordOfWord, wordOfRecord}
 
--- a record's bytes are those of its word
+-- a flag as the machine has it
+pub flag-byte : (b : Bool) → boolByte b ≡ bit b
+flag-byte true = refl
+flag-byte false = refl
+
+pub flag-small : (b : Bool) → boolByte b < 2
+flag-small b = rw (flag-byte b) (bit-lt b)
+
+-- a relation's and a record's bytes are those of its word
+pub relation-word : (k : Relation) → relationImage k ≡ bytesOf 6 (wordOfRelation k)
+unfolding relationImage
+relation-word k = refl
+
 pub image-word : (r : Record) → recordImage r ≡ bytesOf recordBytes (wordOfRecord r)
 unfolding recordImage
 image-word r = refl

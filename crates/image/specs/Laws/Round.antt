@@ -1,38 +1,30 @@
 -- A marking that is made of judged records is judged 'done', and the images of markings go round both ways. Assumes nothing.
-use mathlib.Core.Path.{_≡_, refl, sym, ap, _∙_}
+use mathlib.Core.Path.{_≡_, refl, sym, ap, ap₂, _∙_}
 use mathlib.Core.Bool.{true, not}
 use mathlib.Core.List.{List, [], append-nil}
 use Prim.Native.Nat.{ℕ, _+_, _-_, _*_, _<_}
-use native.Mathlib.Nat.{mod-eq-of-lt, le-of-eq, zero-add}
+use native.Mathlib.Nat.{le-of-eq, zero-add}
 use native.Mathlib.Omega.{arith}
 use borrow.Author.Tests.{eq-eqb, eqb-true, not-false}
 use lib.Dec.{eqb}
 use lib.ListN.{length, getD, take, drop, replicate, List·getD-append}
-use lib.Seq.{ext-getD, take-all}
+use lib.Seq.{take-all}
 use Rattle.rules.specs.declared.Record.{Record}
 use Rattle.rules.specs.declared.Marking.{Marking}
 use Rattle.rules.specs.Counting.{places}
 use Rattle.rules.specs.Numbers.{_if_}
 use Rattle.rules.specs.Holds.{mostEvents, recordOf, emptyRecord}
-use Rattle.rules.specs.Fields.{bytesOf}
+use Rattle.rules.specs.Fields.{field, bytesOf}
 use Rattle.rules.specs.Judge.{eventsFit, recordNumber, markingNumber, markingNumberFor}
 use Rattle.rules.specs.Image.{recordBytes, recordAt, recordBit, eventImage, markingImage, markingFrom, markingImageNumber, readMarking}
 use Rattle.rules.specs.Laws.Counting.{length-places, places-at}
 use Rattle.rules.specs.Laws.Numbers.{if-done, both-done, first-each, first-done}
-use Rattle.rules.specs.Laws.Fields.{bytes-of-word, word-of-bytes}
-use Rattle.rules.specs.Laws.Pieces.{piece-byte, pieces-whole}
+use Rattle.rules.specs.Laws.Fields.{bytes-of-word}
+use Rattle.rules.specs.Laws.Pieces.{piece-word, pieces-whole}
 use Rattle.rules.specs.Laws.Written.{records-sized, image-length}
 use Rattle.image.specs.Packed.{wordOfRecord}
 use Rattle.image.specs.Laws.Packed.{image-word, room, word-fits, record-back, word-read}
 use Rattle.image.specs.Laws.Parts.{record-done}
-
--- two lists by their places
-pub places-same : {A : Type 0} (d : A) (f g : ℕ → A) (n : ℕ) → ((i : ℕ) → i < n → f i ≡ g i) → places n f ≡ places n g
-places-same d f g n h =
-    ext-getD d (places n f) (places n g) (length-places f n ∙ sym (length-places g n))
-    (λ i l.
-    let b : i < n = rw (length-places f n) at l in
-    places-at f n i d b ∙ h i b ∙ sym (places-at g n i d b))
 
 module _ (events : ℕ) (f : ℕ → Record) where
   pub record-from : (e : ℕ) → e < events → recordOf (markingFrom events f) e ≡ f e
@@ -100,15 +92,9 @@ module _ (m : Marking) (judged : markingNumber m ≡ 0) where
   record-again e l =
       let r = recordOf m e in
       let done = record-done m judged e l in
-      let word = wordOfRecord r in
-      let bytes : (i : ℕ) → i < recordBytes → getD (markingImage m) (recordBytes * e + i) 0 ≡ getD (bytesOf recordBytes word) i 0 =
-      λ i b.
-      ap (λ (l : List ℕ). getD l (recordBytes * e + i) 0) (sym (append-nil (markingImage m)))
-      ∙ piece-byte (records-sized m) [] 0 (m .events) e i l b
-      ∙ ap (λ (k : ℕ). getD (eventImage m k) i 0) (zero-add e)
-      ∙ ap (λ (l : List ℕ). getD l i 0) (image-word r) in
       record-back (markingImage m) (recordBit e) r (room r done)
-      (word-of-bytes (markingImage m) (recordBytes * e) recordBytes word bytes ∙ mod-eq-of-lt (word-fits r done))
+      (ap₂ (λ (s : List ℕ) (k : ℕ). field s (8 * k) 64) (sym (append-nil (markingImage m))) (sym (zero-add (recordBytes * e)))
+      ∙ piece-word (records-sized m) [] [] 0 (m .events) e (wordOfRecord r) refl l (image-word r) (word-fits r done))
 
   pub image-readable : Readable (m .events) (markingImage m)
   unfolding markingNumber

@@ -9,6 +9,7 @@ use native.Mathlib.Numerals.{add-one}
 use native.Mathlib.Omega.{arith}
 use lib.Dec.{ltb}
 use lib.ListN.{getD, length, set, replicate}
+use lib.Seq.{ext-getD}
 use borrow.Author.Tests.{ltb-true, ltb-false, lt-ltb, le-ltb}
 use Rattle.rules.specs.Counting.{every, some, lowest, howMany, repeated, placesFrom, places, belowFrom, eachBelow}
 use Rattle.rules.specs.Laws.Tests.{clash, denied, both, either, or-right, last-or-below}
@@ -295,3 +296,11 @@ module _ {A : Type 0} where
 
   pub each-below-kept : (n : ℕ) (f : ℕ → A → A) (l : List A) (i : ℕ) (d : A) → i < length l → n ≤ i → getD (eachBelow n f l) i d ≡ getD l i d
   each-below-kept n f l i d b h = each-below-at n f l i d b ∙ rw (le-ltb i n h)
+
+-- two lists by their places
+pub places-same : {A : Type 0} (d : A) (f g : ℕ → A) (n : ℕ) → ((i : ℕ) → i < n → f i ≡ g i) → places n f ≡ places n g
+places-same d f g n h =
+    ext-getD d (places n f) (places n g) (length-places f n ∙ sym (length-places g n))
+    (λ i l.
+    let b : i < n = rw (length-places f n) at l in
+    places-at f n i d b ∙ h i b ∙ sym (places-at g n i d b))

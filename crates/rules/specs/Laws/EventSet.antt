@@ -1,6 +1,6 @@
 -- Laws of event sets in a word: members, a set by its members, one event more or fewer, size and lowest against the counts of bits.
 -- Assumes nothing.
-use mathlib.Core.Path.{_≡_, refl, _∙_, ap, sym, subst}
+use mathlib.Core.Path.{_≡_, refl, _∙_, ap, ap₂, sym, subst}
 use mathlib.Core.Bool.{Bool, true, false, _||_, cond}
 use mathlib.Core.Logic.{_⊎_, ⊎-elim, inl, inr}
 use Prim.Native.Nat.{ℕ, zero, suc, _<_, _≤_, _+_, _*_, _^_, _/_, _%_, _-_}
@@ -134,6 +134,10 @@ module _ (f : ℕ → Bool) where
   pub set-more : (n : ℕ) → setOf (n + 1) f ≡ setOf n f + cond (f n) (2 ^ n) 0
   unfolding setOf
   set-more n = rw add-one
+
+  -- where its test says so
+  pub set-grown : (i set event : ℕ) {there : Bool} → set ≡ setOf i f → event ≡ cond there (2 ^ i) 0 → there ≡ f i → set + event ≡ setOf (i + 1) f
+  set-grown i set event p q r = ap₂ _+_ p (q ∙ ap (λ (b : Bool). cond b (2 ^ i) 0) r) ∙ sym (set-more i)
 
   pub set-has : (n x : ℕ) → x < n → has (setOf n f) x ≡ f x
   unfolding setOf

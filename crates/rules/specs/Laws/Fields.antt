@@ -1,17 +1,18 @@
 -- Bit fields, once over the width and the place. Two neighbours are one field, so a field within a wider one is a quotient and a remainder
--- of it; whole bytes are the bytes as a number, high byte first; what is written is read back, and what is read is written again.
+-- of it; whole bytes are the bytes as a number, high byte first; what is written is read back, and what is read is written again; two numbers'
+-- bytes, one behind the other, are one number's.
 -- Assumes nothing.
 use mathlib.Core.Path.{_≡_, refl, sym, ap, ap₂, _∙_}
 use mathlib.Core.Bool.{Bool, true, false}
-use mathlib.Core.List.{List}
+use mathlib.Core.List.{List, [], _∷_, _++_}
 use Prim.Native.Nat.{ℕ, zero, suc, _+_, _-_, _*_, _/_, _%_, _^_, _<_, _≤_}
-use native.Mathlib.Nat.{mod-lt, pow-suc, add-suc, add-zero, zero-add, add-assoc, mul-assoc, div-one}
+use native.Mathlib.Nat.{mod-lt, mod-eq-of-lt, le-of-eq, pow-suc, add-suc, add-zero, zero-add, add-assoc, mul-assoc, div-one}
 use native.Mathlib.Numerals.{add-one}
 use native.Mathlib.Omega.{arith}
 use lib.Dec.{lit<, eqb}
 use lib.Pow.{pow-add, low, high, shr-shr, mod-pow-add}
-use lib.ListN.{length, getD, take, drop, length-drop}
-use lib.Seq.{getD-take, getD-drop, ext-getD, length-take-le}
+use lib.ListN.{length, getD, take, drop, length-drop, length-append, List·getD-append}
+use lib.Seq.{getD-take, getD-drop, ext-getD, length-take-le, take-all, getD-append-add}
 use Rattle.rules.specs.Fields.{bitAt, field, bit, bytesOf, _▸_, _∶_}
 
 module _ (image : List ℕ) where
@@ -159,6 +160,56 @@ word-of-bytes image at n v same =
         ∙ ap₂ (λ (a b : ℕ). a * 256 + b) above byte
         ∙ sym (mod-pow-add x (8 * m) 8)
         ∙ ap (λ (k : ℕ). x % 2 ^ k) (sym f)
+
+-- every byte is below 256, also of bytes joined
+bytes-small : (n v i : ℕ) → getD (bytesOf n v) i 0 < 256
+unfolding bytesOf
+bytes-small zero v zero = lit< tt
+bytes-small zero v (suc i) = lit< tt
+bytes-small (suc n) v zero = mod-lt (v / 256 ^ n) (lit< tt)
+bytes-small (suc n) v (suc i) = bytes-small n v i
+
+joined-small : (l m : List ℕ) → ((i : ℕ) → getD l i 0 < 256) → ((i : ℕ) → getD m i 0 < 256) → (i : ℕ) → getD (l ++ m) i 0 < 256
+joined-small [] m p q i = q i
+joined-small (x ∷ l) m p q zero = p 0
+joined-small (x ∷ l) m p q (suc i) = joined-small l m (λ j. p (suc j)) q i
+
+-- bytes of one number and then of another are those of the two joined
+pub bytes-joined : (a b v w : ℕ) → v < 2 ^ (8 * a) → w < 2 ^ (8 * b) → bytesOf a v ++ bytesOf b w ≡ bytesOf (a + b) (v ▸ 8 * b ∶ w)
+bytes-joined a b v w p q =
+    sym (take-all (a + b) image (le-of-eq long))
+    ∙ sym (bytes-of-word image (joined-small (bytesOf a v) (bytesOf b w) (bytes-small a v) (bytes-small b w)) 0 (a + b)
+    (omega (arith, long)))
+    ∙ ap (bytesOf (a + b)) whole
+  where
+    image : List ℕ
+    image = bytesOf a v ++ bytesOf b w
+
+    long : length image ≡ a + b
+    long = length-append (bytesOf a v) (bytesOf b w) ∙ ap₂ _+_ (length-bytes a v) (length-bytes b w)
+
+    upper : field image 0 (8 * a) ≡ v
+    upper =
+        word-of-bytes image 0 a v
+        (λ i l.
+        ap (λ (k : ℕ). getD image k 0) (zero-add i)
+        ∙ List·getD-append (bytesOf a v) (bytesOf b w) 0 i (rw (length-bytes a v) l))
+        ∙ mod-eq-of-lt p
+
+    lower : field image (8 * a) (8 * b) ≡ w
+    lower =
+        word-of-bytes image a b w
+        (λ i l.
+        ap (λ (k : ℕ). getD image (k + i) 0) (sym (length-bytes a v))
+        ∙ getD-append-add (bytesOf a v) (bytesOf b w) i 0)
+        ∙ mod-eq-of-lt q
+
+    whole : field image 0 (8 * (a + b)) ≡ v ▸ 8 * b ∶ w
+    whole =
+        let e : 8 * (a + b) ≡ 8 * a + 8 * b = omega arith in
+        ap (field image 0) e
+        ∙ field-join image 0 (8 * a) (8 * b)
+        ∙ ap₂ (λ (x y : ℕ). x * 2 ^ (8 * b) + y) upper (ap (λ (k : ℕ). field image k (8 * b)) (zero-add (8 * a)) ∙ lower)
 
 -- a digit and its flag
 pub flag-bit : (x : ℕ) → x < 2 → bit (eqb x 1) ≡ x

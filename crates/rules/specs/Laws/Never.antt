@@ -16,7 +16,7 @@ use Rattle.rules.specs.declared.Step.{Step}
 use Rattle.rules.specs.Numbers.{_if_, _else_, firstOf, marginNumber, holdUpNumber, checkNumber}
 use Rattle.rules.specs.Fields.{bytesOf}
 use Rattle.rules.specs.Judge.{relationNumber, tableNumber, markingNumber, markingNumberFor, judged}
-use Rattle.rules.specs.Image.{relationImageNumber, tableImageNumber, readTable, markingImageNumber, readMarking, writeNumber, fresh}
+use Rattle.rules.specs.Image.{relationImageNumber, tableImageNumber, readTable, writeTableNumber, markingImageNumber, readMarking, writeNumber, fresh}
 use Rattle.rules.specs.Pieces.{pieces}
 use Rattle.rules.specs.Image.{eventsIn, recordImage, eventImage, markingImage}
 use Rattle.rules.specs.Enabled.{enabledAnswer}
@@ -31,6 +31,7 @@ use Rattle.rules.specs.Remedy.{remedyNumber, remedy}
 use Rattle.rules.specs.Trace.{stepNumber, stepped, endOf, answersOf, traceNumber, run, runAnswers, stepsIn, runBytes, runBytesAnswers}
 use Rattle.rules.specs.Station.{station, heardNumber}
 use Rattle.rules.specs.Images.{imagesNumber, guardNumber, fieldsNumber}
+use Rattle.rules.specs.Building.{numbersNumber, buildNumber, relationToldNumber, classToldNumber}
 use Rattle.rules.specs.Given.{given, EveryCall, Never}
 use Rattle.rules.specs.Laws.Tests.{clash}
 use Rattle.rules.specs.Laws.Trace.{answers-length, steps-length}
@@ -107,6 +108,18 @@ module _ (P : ℕ → Type 0) (each : (number : ℕ) → given number ≡ true �
   fields-given : (table marking : List ℕ) (event room : ℕ) → P (fieldsNumber table marking event room)
   unfolding fieldsNumber
   fields-given table marking event room = search (if-given, else-given, images-given) depth 8
+
+  build-given : (events : ℕ) (classes numbers : List ℕ) (room : ℕ) → P (buildNumber events classes numbers room)
+  unfolding buildNumber numbersNumber
+  build-given events classes numbers room = search (if-given, else-given, first-given, relation-given) depth 12
+
+  relation-told-given : (table : List ℕ) (relation room : ℕ) → P (relationToldNumber table relation room)
+  unfolding relationToldNumber readTable
+  relation-told-given table relation room = search (if-given, else-given, table-image-given) depth 8
+
+  class-told-given : (table : List ℕ) (event : ℕ) → P (classToldNumber table event)
+  unfolding classToldNumber readTable
+  class-told-given table event = search (if-given, else-given, table-image-given) depth 8
 
   -- the calls' own numbers
   request-given : (t : Table) (m : Marking) (e : ℕ) → P (requestNumber t m e)
@@ -200,10 +213,11 @@ module _ (P : ℕ → Type 0) (each : (number : ℕ) → given number ≡ true �
         go false (suc i) b = each 0 refl
 
   pub every-call : EveryCall P
-  unfolding readTable readMarking writeNumber fresh enabledAnswer dueAnswer request report plainTick closureAnswer guardedTick remedy run runAnswers runBytes runBytesAnswers heardNumber
+  unfolding readTable readMarking writeTableNumber writeNumber fresh enabledAnswer dueAnswer request report plainTick closureAnswer guardedTick remedy run runAnswers runBytes runBytesAnswers heardNumber
   every-call = record {
     of-read-table = table-image-given;
     of-read-marking = marking-image-given;
+    of-write-table = λ t room. search (if-given, else-given, table-given);
     of-write-marking = λ m room. search (if-given, else-given, marking-given);
     of-fresh = λ events. search if-given;
     of-judge-table = table-given;
@@ -229,6 +243,9 @@ module _ (P : ℕ → Type 0) (each : (number : ℕ) → given number ≡ true �
     of-images = images-given;
     of-guard = guard-given;
     of-fields = fields-given;
+    of-build = build-given;
+    of-relation-told = relation-told-given;
+    of-class-told = class-told-given;
   }
 
 pub never : (n : ℕ) → given n ≡ false → Never n

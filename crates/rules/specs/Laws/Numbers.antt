@@ -5,7 +5,9 @@ use mathlib.Core.Logic.{_⊎_, ⊎-elim}
 use Prim.Native.Nat.{ℕ, zero, suc, _<_, _+_}
 use native.Mathlib.Omega.{arith}
 use native.Mathlib.Numerals.{add-one}
-use Rattle.rules.specs.Numbers.{_if_, _else_, firstOf}
+use lib.Dec.{eqb}
+use borrow.Author.Tests.{eqb-true}
+use Rattle.rules.specs.Numbers.{_if_, _else_, firstOf, done}
 use Rattle.rules.specs.Laws.Tests.{last-or-below}
 
 -- a rule that is kept gives no number, one that is broken its own
@@ -27,6 +29,27 @@ else-refused {a = suc a} b h = refl
 pub both-done : (a b : ℕ) → (a else b) ≡ 0 → (a ≡ 0) × (b ≡ 0)
 both-done zero b h = (refl, h)
 both-done (suc a) b h = absurd (omega (arith, h))
+
+-- three in order, and one that nothing follows
+pub else-joined : (a b c : ℕ) → ((a else b) else c) ≡ (a else (b else c))
+else-joined zero b c = refl
+else-joined (suc a) b c = refl
+
+pub else-nothing : (a : ℕ) → (a else 0) ≡ a
+else-nothing zero = refl
+else-nothing (suc a) = refl
+
+-- a number is 'done', or a refusal
+pub by-number : {P : Type 0} (number : ℕ) → (number ≡ 0 → P) → (eqb number 0 ≡ false → P) → P
+by-number {P = P} number granted refused = go (eqb number 0) refl
+  where
+    go : (b : Bool) → eqb number 0 ≡ b → P
+    go true e = granted (eqb-true number 0 e)
+    go false e = refused e
+
+-- what is done, or what stands for it in a refusal
+pub done-alike : {A : Type 0} (number : ℕ) (a b refused : A) → (number ≡ 0 → a ≡ b) → done number a refused ≡ done number b refused
+done-alike number a b refused h = by-number number (λ z. rw (h z)) (λ r. rw r)
 
 module _ (f : ℕ → ℕ) where
   -- nothing yet, and nothing from place i: nothing yet

@@ -1,14 +1,17 @@
--- Pieces of one length, joined, once over the piece and its length: how long they are, the last of them, and byte i of piece e; the first i of
--- them in a buffer, and one more; and pieces that are each their stretch of an image are that stretch as a whole. Assumes nothing.
+-- Pieces of one length, joined, once over the piece and its length: how long they are, the last of them, and byte i of piece e; the number that a
+-- piece is the bytes of, behind a head and before a rest; one put behind what stands in a buffer; the first i of them there, and one more; and
+-- pieces that are each their stretch of an image are that stretch as a whole. Assumes nothing.
 use mathlib.Core.Path.{_≡_, sym, ap, ap₂, _∙_}
 use mathlib.Core.List.{List, _++_, append-assoc, append-nil}
-use Prim.Native.Nat.{ℕ, zero, suc, _+_, _*_, _<_, _≤_}
-use native.Mathlib.Nat.{add-zero, zero-add, add-suc, suc-add}
+use Prim.Native.Nat.{ℕ, zero, suc, _+_, _*_, _^_, _<_, _≤_}
+use native.Mathlib.Nat.{add-zero, zero-add, add-suc, suc-add, mod-eq-of-lt}
 use native.Mathlib.Numerals.{add-one}
 use native.Mathlib.Omega.{arith}
 use lib.ListN.{length, getD, take, drop, length-append, length-drop, take-append-drop, List·getD-append}
 use lib.Seq.{length-take-le, take-at, take-add, drop-append-add, drop-drop, getD-append-add}
+use Rattle.rules.specs.Fields.{field, bytesOf}
 use Rattle.rules.specs.Pieces.{pieces}
+use Rattle.rules.specs.Laws.Fields.{word-of-bytes}
 
 -- each piece has `width` bytes
 pub record Sized (f : ℕ → List ℕ) (width : ℕ) : Type 0 where
@@ -17,6 +20,17 @@ pub record Sized (f : ℕ → List ℕ) (width : ℕ) : Type 0 where
 -- the first i pieces stand in a buffer from byte `start` on, and the rest is as it was
 abbrev pub standing : (ℕ → List ℕ) → ℕ → List ℕ → ℕ → ℕ → List ℕ
 standing f width buffer start i = take start buffer ++ pieces f 0 i ++ drop (start + width * i) buffer
+
+-- a piece put behind what stands at the start of a buffer; the rest is as it was
+pub put-behind : (buffer held piece : List ℕ) (at width : ℕ) {before after : List ℕ} → length held ≡ at → before ≡ held ++ drop at buffer
+    → after ≡ take at before ++ piece ++ drop (at + width) before → after ≡ held ++ piece ++ drop (at + width) buffer
+put-behind buffer held piece at width long stands put =
+    put
+    ∙ rw stands
+    (ap₂ (λ (a b : List ℕ). a ++ piece ++ b) (take-at held (drop at buffer) at long)
+    (ap (λ (k : ℕ). drop (k + width) (held ++ drop at buffer)) (sym long)
+    ∙ drop-append-add held (drop at buffer) width
+    ∙ drop-drop width at buffer))
 
 module _ (f : ℕ → List ℕ) where
   pub pieces-last : (at n : ℕ) → pieces f at (suc n) ≡ pieces f at n ++ f (at + n)
@@ -54,6 +68,21 @@ module _ {f : ℕ → List ℕ} {width : ℕ} (sized : Sized f width) where
       ∙ piece-byte rest (suc at) n e i (omega arith) l
       ∙ ap (λ (k : ℕ). getD (f k) i 0) (suc-add at e ∙ sym (add-suc at e))
 
+  -- a piece that is the bytes of a number, behind a head and before a rest: its bytes hold that number
+  pub piece-word : (head rest : List ℕ) (start n e v : ℕ) → length head ≡ start → e < n → f e ≡ bytesOf width v → v < 2 ^ (8 * width)
+      → field (head ++ pieces f 0 n ++ rest) (8 * (start + width * e)) (8 * width) ≡ v
+  piece-word head rest start n e v long l same small =
+      word-of-bytes (head ++ pieces f 0 n ++ rest) (start + width * e) width v byte ∙ mod-eq-of-lt small
+    where
+      byte : (i : ℕ) → i < width → getD (head ++ pieces f 0 n ++ rest) (start + width * e + i) 0 ≡ getD (bytesOf width v) i 0
+      byte i b =
+          let place : start + width * e + i ≡ length head + (width * e + i) = omega (arith, long) in
+          ap₂ (λ (s : List ℕ) (k : ℕ). getD s k 0) (append-assoc head (pieces f 0 n) rest) place
+          ∙ getD-append-add head (pieces f 0 n ++ rest) (width * e + i) 0
+          ∙ piece-byte rest 0 n e i l b
+          ∙ ap (λ (k : ℕ). getD (f k) i 0) (zero-add e)
+          ∙ ap (λ (s : List ℕ). getD s i 0) same
+
   -- In a buffer
   pub standing-none : (buffer : List ℕ) (start : ℕ) → buffer ≡ standing f width buffer start 0
   unfolding pieces
@@ -75,14 +104,12 @@ module _ {f : ℕ → List ℕ} {width : ℕ} (sized : Sized f width) where
   pub standing-more : (buffer : List ℕ) (start at i : ℕ) {held piece after : List ℕ} → start ≤ length buffer → at ≡ start + width * i
       → held ≡ standing f width buffer start i → piece ≡ f i → after ≡ take at held ++ piece ++ drop (at + width) held
       → after ≡ standing f width buffer start (i + 1)
-  standing-more buffer start at i h e held-is piece-is put =
-      put ∙ rw (held-is, piece-is) (ap₂ (λ (a b : List ℕ). a ++ b) (ap (λ (l : List ℕ). l ++ f i) (take-at head rest at long) ∙ longer) behind)
+  standing-more buffer start at i {piece = piece} h e held-is piece-is put =
+      put-behind buffer head piece at width long (held-is ∙ ap (λ (k : ℕ). head ++ drop k buffer) (sym e)) put
+      ∙ ap₂ (λ (l : List ℕ) (k : ℕ). l ++ drop k buffer) (ap (λ (l : List ℕ). head ++ l) piece-is ∙ longer) next
     where
       head : List ℕ
       head = take start buffer ++ pieces f 0 i
-
-      rest : List ℕ
-      rest = drop (start + width * i) buffer
 
       long : length head ≡ at
       long = head-length buffer start i h ∙ sym e
@@ -90,13 +117,8 @@ module _ {f : ℕ → List ℕ} {width : ℕ} (sized : Sized f width) where
       longer : head ++ f i ≡ take start buffer ++ pieces f 0 (i + 1)
       longer = append-assoc (take start buffer) (pieces f 0 i) (f i) ∙ ap (λ (l : List ℕ). take start buffer ++ l) (sym (pieces-more f i))
 
-      behind : drop (at + width) (head ++ rest) ≡ drop (start + width * (i + 1)) buffer
-      behind =
-          let next : start + width * i + width ≡ start + width * (i + 1) = omega arith in
-          ap (λ (k : ℕ). drop (k + width) (head ++ rest)) (sym long)
-          ∙ drop-append-add head rest width
-          ∙ drop-drop width (start + width * i) buffer
-          ∙ ap (λ (k : ℕ). drop k buffer) next
+      next : at + width ≡ start + width * (i + 1)
+      next = omega (arith, e)
 
   -- pieces that are each their stretch of an image, from byte `start` on
   pub pieces-whole : (image : List ℕ) (start n : ℕ) → ((e : ℕ) → e < n → f e ≡ take width (drop (start + width * e) image))

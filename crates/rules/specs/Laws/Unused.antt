@@ -1,14 +1,14 @@
 -- No call looks at unused places: tables and markings that agree on the places in use get answers that agree there. For any values, judged
 -- 'done' or not: a relation that names an event which does not exist is refused before anything is read there. Assumes nothing.
 use mathlib.Core.Path.{_≡_, refl, _∙_, ap, ap₂, sym, subst}
-use mathlib.Core.Bool.{Bool, true, false, not}
+use mathlib.Core.Bool.{not}
 use mathlib.Core.List.{List, [], _++_}
 use Prim.Native.Nat.{ℕ, zero, suc, _<_, _≤_, _+_, _-_}
 use native.Mathlib.Omega.{arith}
-use lib.Dec.{eqb, ltb}
+use lib.Dec.{ltb}
 use lib.ListN.{length, set, length-set, replicate}
 use lib.Seq.{getD-set-other}
-use borrow.Author.Tests.{eqb-true, ltb-true}
+use borrow.Author.Tests.{ltb-true}
 use Rattle.rules.specs.declared.Relation.{Relation}
 use Rattle.rules.specs.declared.Table.{Table}
 use Rattle.rules.specs.declared.Record.{Record}
@@ -18,6 +18,7 @@ use Rattle.rules.specs.Numbers.{_if_, _else_, done, checkNumber}
 use Rattle.rules.specs.Holds.{mostEvents, emptyRelation, emptyRecord, withRecords}
 use Rattle.rules.specs.Pieces.{pieces}
 use Rattle.rules.specs.Judge.{judged, eventNumber}
+use Rattle.rules.specs.Image.{headerImage, classImage, placeImage, tableImage, writeTableNumber, writeTable}
 use Rattle.rules.specs.Image.{eventImage, markingImage, writeNumber, writeMarking}
 use Rattle.rules.specs.Enabled.{enabledAnswer}
 use Rattle.rules.specs.Time.{dueAnswer, plainTick}
@@ -31,7 +32,7 @@ use Rattle.rules.specs.Remedy.{remedyNumber, remedy}
 use Rattle.rules.specs.Trace.{answersOf, run, runAnswers, stepsIn, runBytes, runBytesAnswers}
 use Rattle.rules.specs.Unused.{SameTable, SameMarking, SameAnswer, SameGuarded, NoneLooks}
 use Rattle.rules.specs.Laws.Tests.{not-false}
-use Rattle.rules.specs.Laws.Numbers.{if-done, both-done}
+use Rattle.rules.specs.Laws.Numbers.{if-done, both-done, by-number, done-alike}
 use Rattle.rules.specs.Laws.Judge.{good}
 use Rattle.rules.specs.Laws.UnusedRules.{table-judged, marking-judged, marking-judged-for, both-judged, effect-agrees, time-agrees, due-set-alike}
 use Rattle.rules.specs.Laws.UnusedRules.{Agree, right-alike, enabled-alike, hold-up-alike, closure-alike, verdict-alike}
@@ -68,6 +69,29 @@ unfolding pieces
 pieces-alike f g at zero h = refl
 pieces-alike f g at (suc n) h = ap₂ _++_ (h at (omega arith)) (pieces-alike f g (suc at) n (λ i b. h i (omega arith)))
 
+-- a table written
+module _ {t u : Table} (same : SameTable t u) where
+  table-image-alike : tableImage t ≡ tableImage u
+  unfolding headerImage classImage
+  table-image-alike =
+      let header : headerImage t ≡ headerImage u = rw (same .same-events, same .same-count) in
+      let classes =
+      pieces-alike (classImage t) (classImage u) 0 (t .events)
+      (λ e b. rw (same .same-controllable e (omega arith), same .same-causable e (omega arith)))
+      ∙ ap (pieces (classImage u) 0) (same .same-events) in
+      let relations =
+      pieces-alike (placeImage t) (placeImage u) 0 (t .count) (λ k b. rw (same .same-relation k (omega arith)))
+      ∙ ap (pieces (placeImage u) 0) (same .same-count) in
+      ap₂ _++_ (ap₂ _++_ header classes) relations
+
+  write-table-number-same : (room : ℕ) → writeTableNumber t room ≡ writeTableNumber u room
+  unfolding writeTableNumber
+  write-table-number-same room = rw (table-judged same, same .same-events, same .same-count)
+
+  write-table-same : (buffer : List ℕ) → writeTable t buffer ≡ writeTable u buffer
+  unfolding writeTable
+  write-table-same buffer = rw (write-table-number-same (length buffer), table-image-alike, same .same-events, same .same-count)
+
 -- a marking written alone
 module _ {m n : Marking} (same : SameMarking m n) where
   image-alike : markingImage m ≡ markingImage n
@@ -83,18 +107,7 @@ module _ {m n : Marking} (same : SameMarking m n) where
   unfolding writeMarking
   write-same buffer = rw (write-number-same (length buffer), image-alike, same .same-events)
 
--- a number is 'done', or a refusal
-by-number : {P : Type 0} (number : ℕ) → (number ≡ 0 → P) → (eqb number 0 ≡ false → P) → P
-by-number {P = P} number granted refused = go (eqb number 0) refl
-  where
-    go : (b : Bool) → eqb number 0 ≡ b → P
-    go true e = granted (eqb-true number 0 e)
-    go false e = refused e
-
--- what is done, or what stands for it in a refusal
-done-alike : {A : Type 0} (number : ℕ) (a b refused : A) → (number ≡ 0 → a ≡ b) → done number a refused ≡ done number b refused
-done-alike number a b refused h = by-number number (λ z. rw (h z)) (λ r. rw r)
-
+-- markings that agree, of what is done or of a refusal
 done-agrees : (number : ℕ) {p q m n : Marking} → SameMarking m n → (number ≡ 0 → SameMarking p q) → SameMarking (done number p m) (done number q n)
 done-agrees number same h = by-number number (λ z. rw z (h z)) (λ r. rw r same)
 
@@ -231,6 +244,8 @@ module _ {t u : Table} {m n : Marking} (tables : SameTable t u) (markings : Same
 -- No call looks at unused places
 pub none-looks : {t u : Table} {m n : Marking} → SameTable t u → SameMarking m n → NoneLooks t u m n
 none-looks tables markings = record {
+  of-write-table-number = write-table-number-same tables;
+  of-write-table = write-table-same tables;
   of-write-number = write-number-same markings;
   of-write-marking = write-same markings;
   of-judge-table = table-judged tables;

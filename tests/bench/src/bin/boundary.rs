@@ -1,7 +1,7 @@
 //! `boundary --program WORD.. --cases N --seed S` sends N random questions over
-//! images to one run of the program (`tests/boundary/answers.c`). It exits 0 if
-//! every answer agrees, 1 at the first that differs, 2 if nothing was compared
-//! or some number did not come up.
+//! images and plain numbers to one run of the program (`tests/boundary/answers.c`).
+//! It exits 0 if every answer agrees, 1 at the first that differs, 2 if nothing
+//! was compared or some number did not come up.
 
 use bench::boundary::{missing, run};
 use std::process::ExitCode;
@@ -25,8 +25,8 @@ fn report(program: &[String], cases: usize, seed: u64) -> std::io::Result<(Strin
             let report = format!("{difference:#?}\nboundary: the answers differ, seed {seed}");
             (report, 1)
         }
-        Ok(numbers) if !missing(&numbers).is_empty() => {
-            let missing = missing(&numbers);
+        Ok(seen) if !missing(&seen).is_empty() => {
+            let missing = missing(&seen);
             (
                 format!("boundary: not compared: no case gives {missing:?}"),
                 2,

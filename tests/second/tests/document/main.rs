@@ -1,11 +1,13 @@
-//! Document 01, line by line.
+//! Document 01 line by line, and of document 02 what has landed.
 
 mod closures;
 mod examples;
 mod mistakes;
 mod order;
+mod plain_numbers;
 mod reasons;
 mod records;
 mod refusals;
 mod round_trips;
 mod shop;
+mod written_tables;

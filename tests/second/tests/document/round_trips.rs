@@ -1,9 +1,19 @@
 //! Write then read, read then write.
 
 use crate::shop::*;
+use second::case::Case;
 use second::generate;
 use second::rng::Rng;
 use second::*;
+
+fn classes_of(table: &Table) -> Vec<Class> {
+    let class = |event| {
+        // There may be more events than a set has places.
+        let worth = if event < 64 { set(&[event]) } else { 0 };
+        (table.controllable & worth != 0, table.causable & worth != 0)
+    };
+    (0..table.events).map(class).collect()
+}
 
 #[test]
 fn a_written_marking_reads_back() {
@@ -45,21 +55,119 @@ fn a_table_image_reads_as_the_table_it_was_made_from() {
     let mut rng = Rng::new(13);
     for _ in 0..500 {
         let made_from = generate::sound_pair(&mut rng).table;
-        let classes: Vec<Class> = (0..made_from.events)
-            .map(|event| {
-                let worth = set(&[event]);
-                (
-                    made_from.controllable & worth != 0,
-                    made_from.causable & worth != 0,
-                )
-            })
-            .collect();
+        let classes = classes_of(&made_from);
         let relations = &made_from.relations[..made_from.count];
         let image = table_image(&classes, relations);
         assert_eq!(generate::table_image(&made_from), image);
         let read = read_table(&image);
         assert_eq!(read.number, 0);
         assert_eq!(read.table, table(&classes, relations));
+    }
+}
+
+/// The table with its unused places empty.
+fn used_places(of: &Table) -> Table {
+    table(&classes_of(of), &of.relations[..of.count])
+}
+
+#[test]
+fn a_written_table_reads_back_with_its_unused_places_empty() {
+    let mut rng = Rng::new(15);
+    let mut had_rubbish = 0;
+    for _ in 0..500 {
+        let handed_in = generate::sound_pair(&mut rng).table;
+        let length = 4 + handed_in.events + 6 * handed_in.count;
+        let mut buffer = vec![170; length + 3];
+        assert_eq!(write_table(&handed_in, &mut buffer), 0);
+        assert_eq!(buffer[length..], [170; 3]);
+        let read = read_table(&buffer[..length]);
+        assert_eq!(read.number, 0);
+        assert_eq!(read.table, used_places(&handed_in));
+        had_rubbish += usize::from(read.table != *handed_in);
+    }
+    assert!(had_rubbish > 100, "{had_rubbish}");
+}
+
+#[test]
+fn a_read_table_writes_the_same_bytes() {
+    let mut rng = Rng::new(16);
+    let mut refused = 0;
+    for _ in 0..2000 {
+        let Case::ReadTable { bytes } = generate::read_table_case(&mut rng) else {
+            panic!("another case");
+        };
+        let read = read_table(&bytes);
+        let mut written = vec![170; bytes.len()];
+        if read.number == 0 {
+            assert_eq!(write_table(&read.table, &mut written), 0);
+            assert_eq!(written, bytes);
+        } else {
+            // A refusal reads as the empty table, which has no image.
+            assert_eq!(write_table(&read.table, &mut written), 3);
+            refused += 1;
+        }
+    }
+    assert!(refused > 500 && refused < 1500, "{refused}");
+}
+
+/// The image of a table as it stands, if each of its fields holds its value.
+fn image_of_any(table: &Table) -> Option<Vec<u8>> {
+    if table.events > 127 || table.count > 256 {
+        return None;
+    }
+    let used = &table.relations[..table.count];
+    let fits = |relation: &Relation| {
+        relation.kind < 8 && relation.left.max(relation.right) < 64 && relation.time < 1_073_741_824
+    };
+    let image = table_image(&classes_of(table), used);
+    used.iter().all(fits).then_some(image)
+}
+
+#[test]
+fn a_refused_table_has_the_number_that_reading_its_image_gives() {
+    let mut rng = Rng::new(17);
+    let mut numbers = [0; 7];
+    let mut without_image = 0;
+    for _ in 0..4000 {
+        let Case::WriteTable { table, mut buffer } = generate::write_table_case(&mut rng) else {
+            panic!("another case");
+        };
+        buffer.resize(2000, 170);
+        let number = write_table(&table, &mut buffer);
+        match image_of_any(&table) {
+            Some(image) => {
+                assert_eq!(number, read_table(&image).number);
+                numbers[usize::from(number)] += 1;
+            }
+            None => without_image += 1,
+        }
+    }
+    assert!(without_image > 100, "{without_image}");
+    for number in [0, 3, 4, 5, 6] {
+        assert!(numbers[number] > 20, "{number}: {numbers:?}");
+    }
+}
+
+#[test]
+fn numbers_told_of_a_table_build_it_again() {
+    let mut rng = Rng::new(18);
+    for _ in 0..100 {
+        let table = generate::sound_pair(&mut rng).table;
+        let image = generate::table_image(&table);
+        let mut classes = vec![1; table.events];
+        for (event, place) in classes.iter_mut().enumerate() {
+            assert_eq!(tell_class(&image, event, place), 0);
+        }
+        let mut relations = vec![9; 5 * table.count];
+        for (relation, places) in relations.chunks_mut(5).enumerate() {
+            assert_eq!(tell_relation(&image, relation, places), 0);
+        }
+        let mut again = vec![170; image.len()];
+        assert_eq!(
+            build_table(table.events, &classes, &relations, &mut again),
+            0
+        );
+        assert_eq!(again, image);
     }
 }
 

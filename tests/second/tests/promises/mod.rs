@@ -2,6 +2,8 @@
 //! only. Each promise says what is broken, so that a test can also show that
 //! it breaks.
 
+mod tables;
+
 use second::case::{Answer, Case, Pair};
 use second::{generate, *};
 use std::collections::BTreeSet;
@@ -138,8 +140,9 @@ fn read_table_promise(bytes: &[u8], read: &ReadTable) -> Promise {
         }),
         "unused classes are not empty",
     )?;
+    let mut written = vec![0; bytes.len()];
     holds(
-        generate::table_image(&read.table) == bytes,
+        write_table(&read.table, &mut written) == 0 && written == bytes,
         "the image does not come back",
     )
 }
@@ -890,6 +893,50 @@ pub fn promise(case: &Case, answer: &Answer) -> Promise {
             },
         ) => run_bytes_promise(pair, steps, answers, end, after),
         (Case::Station { input }, Answer::Station(output)) => station_promise(input, output),
+        (
+            Case::WriteTable { table, buffer },
+            Answer::Written {
+                number,
+                buffer: after,
+            },
+        ) => tables::write_table_promise(table, buffer, *number, after),
+        (
+            Case::BuildTable {
+                events,
+                classes,
+                relations,
+                buffer,
+            },
+            Answer::Written {
+                number,
+                buffer: after,
+            },
+        ) => {
+            let numbers = (*events, classes.as_slice(), relations.as_slice());
+            tables::build_table_promise(numbers, buffer, *number, after)
+        }
+        (
+            Case::TellRelation {
+                image,
+                relation,
+                places,
+            },
+            Answer::ToldRelation {
+                number,
+                places: after,
+            },
+        ) => tables::tell_relation_promise(image, *relation, places, *number, after),
+        (
+            Case::TellClass {
+                image,
+                event,
+                place,
+            },
+            Answer::ToldClass {
+                number,
+                place: after,
+            },
+        ) => tables::tell_class_promise(image, *event, *place, *number, *after),
         _ => Err("the answer is to another call".to_string()),
     }
 }

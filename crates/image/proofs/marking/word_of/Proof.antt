@@ -1,23 +1,16 @@
 -- `image::marking::word_of` meets its contract. A record that is judged 'done' has its numbers in 30 bits, so the whole fits 64, and each
 -- number on the way is no larger. Assumes nothing.
-use mathlib.Core.Path.{_≡_, refl}
-use mathlib.Core.Bool.{Bool, true, false}
+use mathlib.Core.Path.{_≡_}
 use Prim.Native.Nat.{ℕ, _<_, _^_, _+_, _*_}
 use native.Mathlib.Omega.{arith}
 use borrow.Author.Needs.{needs}
 use mir.Val.{boolByte}
 use Rattle.rules.specs.declared.Record.{Record}
-use Rattle.rules.specs.Fields.{bit}
 use Rattle.rules.specs.Judge.{recordNumber}
 use Rattle.image.specs.Packed.{wordOfRecord}
-use Rattle.image.specs.Laws.Packed.{word-fits}
+use Rattle.image.specs.Laws.Packed.{flag-byte, word-fits}
 use Rattle.image.proofs.marking.word_of.Statement.{statement}
 use Rattle.image.proofs.marking.word_of.Tie as tie
-
--- a flag as the machine has it
-flag : (b : Bool) → boolByte b ≡ bit b
-flag true = refl
-flag false = refl
 
 -- the number as the machine has it
 abbrev machineWord : Record → ℕ
@@ -28,7 +21,7 @@ machineWord r =
     + r .deadline
 
 same : (r : Record) → machineWord r ≡ wordOfRecord r
-same r = rw (flag (r .happened), flag (r .included), flag (r .pending), flag (r .bounded))
+same r = rw (flag-byte (r .happened), flag-byte (r .included), flag-byte (r .pending), flag-byte (r .bounded))
 
 whole : (r : Record) → recordNumber r ≡ 0 → machineWord r < 2 ^ 64
 whole r h = rw (same r) (word-fits r h)

@@ -1,7 +1,7 @@
 -- `image::table::classes_in` meets its contract: after i turns no class of the first i events has a spare bit, and each set has those of
 -- them whose bit is set. Assumes nothing.
-use mathlib.Core.Path.{_≡_, sym, ap, ap₂, _∙_}
-use mathlib.Core.Bool.{Bool, cond}
+use mathlib.Core.Path.{_≡_, sym, ap, _∙_}
+use mathlib.Core.Bool.{Bool}
 use Prim.Native.Nat.{ℕ, _≤_, _<_, _-_, _+_, _/_, _%_, _^_}
 use lib.Dec.{eqb}
 use native.Mathlib.Omega.{arith}
@@ -10,7 +10,7 @@ use borrow.Author.Tests.{eq-eqb, ne-eqb}
 use Rattle.rules.specs.Numbers.{firstOf}
 use Rattle.rules.specs.EventSet.{setOf}
 use Rattle.rules.specs.Image.{classSpare}
-use Rattle.rules.specs.Laws.EventSet.{set-zero, set-more, set-fits}
+use Rattle.rules.specs.Laws.EventSet.{set-zero, set-grown, set-fits}
 use Rattle.rules.specs.Laws.Numbers.{first-none, first-more, first-here}
 use Rattle.image.specs.Parts.{classNumber, isControllableIn, isCausableIn}
 use Rattle.image.specs.Laws.Parts.{class-controllable, class-causable, class-spare}
@@ -26,11 +26,6 @@ Inv-loop image events controllable₀ causable₀ i₀ controllable causable i =
 
 abbrev μ-loop : tie.MeasureT-loop
 μ-loop image events controllable₀ causable₀ i₀ controllable causable i = events - i
-
--- one event more, if its test says so
-grown : (f : ℕ → Bool) (i set event : ℕ) {there : Bool} → set ≡ setOf i f → event ≡ cond there (2 ^ i) 0 → there ≡ f i
-    → set + event ≡ setOf (i + 1) f
-grown f i set event p q r = ap₂ _+_ p (q ∙ ap (λ (b : Bool). cond b (2 ^ i) 0) r) ∙ sym (set-more f i)
 
 fits : (f : ℕ → Bool) (i n : ℕ) → i < 64 → n ≡ setOf (i + 1) f → n < 2 ^ 64
 fits f i n h e = rw e (set-fits f (i + 1) (omega arith))
@@ -66,14 +61,14 @@ controls : (c : tie.After-event-if Inv-loop μ-loop)
     → c .before .before .before .before .loop .controllable + c .event-if .result ≡ setOf (c .before .before .before .before .loop .i + 1)
     (isControllableIn (c .before .before .before .before .before .before .args .image .now))
 controls c =
-    grown _ (c .before .before .before .before .loop .i) _ _ (c .before .before .before .before .loop .inv .2) (c .event-if .ensures)
+    set-grown _ (c .before .before .before .before .loop .i) _ _ (c .before .before .before .before .loop .inv .2) (c .event-if .ensures)
     (ap (λ (w : ℕ). eqb (w / 2 ^ 7 % 2) 1) (c .before .before .word .ensures) ∙ class-controllable _ _)
 
 causes : (c : tie.After-event-if2 Inv-loop μ-loop)
     → c .before .before .before .before .before .loop .causable + c .event-if2 .result ≡ setOf (c .before .before .before .before .before .loop .i + 1)
     (isCausableIn (c .before .before .before .before .before .before .before .args .image .now))
 causes c =
-    grown _ (c .before .before .before .before .before .loop .i) _ _ (c .before .before .before .before .before .loop .inv .3) (c .event-if2 .ensures)
+    set-grown _ (c .before .before .before .before .before .loop .i) _ _ (c .before .before .before .before .before .loop .inv .3) (c .event-if2 .ensures)
     (ap (λ (w : ℕ). eqb (w / 2 ^ 6 % 2) 1) (c .before .before .before .word .ensures) ∙ class-causable _ _)
 
 add-controllable : tie.Need-add-controllable Inv-loop μ-loop
