@@ -47,7 +47,7 @@
  *     duty_guarded_tick 29,920    duty_run 29,376         duty_check 26,448         duty_closure 25,008
  *     duty_request 22,864         duty_report 22,864      duty_plain_tick 22,864    duty_margin 22,784
  *     duty_enabled 20,704         duty_hold_up 20,704     duty_due 19,664           duty_record 17,824
- *     duty_remedies 17,680        duty_judge 17,024       duty_relation 12,560      duty_class 10,464
+ *     duty_remedies 17,680        duty_judge 17,024       duty_relation 12,560      duty_class 10,480
  *     duty_write_table 4,448      duty_fresh 3,184        duty_size, duty_lowest 8
  */
 #ifndef DUTY_H

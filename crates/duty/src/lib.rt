@@ -107,7 +107,7 @@ pub extern "C" fn duty_class(table: &[u8], event: usize, byte: &mut u8) -> u8
     let t = read.table;
     let number = images::first_of(read.number, asking::missing(t.events, event));
     if number == 0 {
-        *byte = tabling::class_of(t.controllable, t.causable, event);
+        *byte = table[4 + event];
     }
     number
 }

@@ -1,9 +1,9 @@
 -- Nothing enters that the judge does not accept, and nothing leaves that cannot be read back; what is built from plain numbers is told back in them.
 -- Assumes nothing.
 use mathlib.Core.Path.{_≡_, refl, sym, ap, ap₂, _∙_}
-use mathlib.Core.Bool.{not}
+use mathlib.Core.Bool.{Bool, not}
 use mathlib.Core.List.{List, _++_}
-use Prim.Native.Nat.{ℕ, _-_, _*_, _<_, _≤_}
+use Prim.Native.Nat.{ℕ, _+_, _-_, _*_, _<_, _≤_}
 use borrow.Author.Tests.{ne-eqb, not-false}
 use lib.ListN.{length, getD, take, drop, replicate}
 use lib.Seq.{take-at}
@@ -12,15 +12,21 @@ use Rattle.rules.specs.declared.Marking.{Marking}
 use Rattle.rules.specs.declared.Record.{Record}
 use Rattle.rules.specs.Holds.{mostEvents, recordOf, emptyRecord}
 use Rattle.rules.specs.Judge.{eventsFit, recordFits, markingNumber, markingNumberFor, tableNumber}
+use Rattle.rules.specs.Fields.{_▸_, _∶_, bit}
+use Rattle.rules.specs.Image.{eventsIn, classBit}
 use Rattle.rules.specs.Image.{tableLength, tableIn, readTable, classByte, tableImage, writeTableNumber, writeTable, ImageHolds, unusedEmpty}
 use Rattle.rules.specs.Image.{markingFrom, recordBytes, markingImage, recordAt, recordBit, readMarking, writeNumber, writeMarking, fresh, freshRecord}
 use Rattle.rules.specs.Images.{tableOf}
 use Rattle.rules.specs.Building.{relationsTold, tableFrom, buildNumber, build, builtImage, relationToldNumber, relationTold, classToldNumber, Tells}
 use Rattle.rules.specs.Laws.Counting.{places-same}
+use Rattle.rules.specs.Laws.EventSet.{set-has}
+use Rattle.rules.specs.Laws.Fields.{byte-field}
 use Rattle.rules.specs.Laws.Numbers.{if-done, both-done}
 use Rattle.rules.specs.Laws.Written.{table-image-length, table-number-refused, table-number-done, table-bytes-kept, table-bytes-written}
 use Rattle.rules.specs.Laws.Written.{image-length, number-done, bytes-kept, bytes-written, later-kept}
 use Rattle.image.specs.Laws.Round.{from-done, from-done-for, readable, readable-number, reads-as, images-back, record-again, image-readable}
+use Rattle.image.specs.Parts.{isControllableIn, isCausableIn}
+use Rattle.image.specs.Laws.TableWords.{class-again}
 use Rattle.image.specs.Laws.TableRound.{image-judged, image-read, table-readable, table-in-done, table-in-unused, table-image-back}
 use Rattle.image.specs.Laws.Built.{told, told-unused, told-done, numbers-again, class-told, told-tells}
 use Rattle.image.specs.Laws.Built.{table-read, relation-number-told, relation-told, class-number-told, tells-number, tells-bytes}
@@ -49,6 +55,23 @@ fresh-accepted events h =
 pub read-table-accepted : (image : List ℕ) → readTable image .number ≡ 0 → tableNumber (readTable image .table) ≡ 0
 unfolding readTable
 read-table-accepted image h = rw h (table-in-done image (table-readable image h))
+
+-- A table image that is read is as long as its counts say, and the class byte of an event is its own.
+pub read-table-exact : (image : List ℕ) → readTable image .number ≡ 0
+    → length image ≡ tableLength (readTable image .table .events) (readTable image .table .count)
+unfolding readTable tableIn
+read-table-exact image h = rw h (table-readable image h .exact)
+
+pub class-is-byte : (image : List ℕ) → readTable image .number ≡ 0 → (e : ℕ) → e < readTable image .table .events → getD image (4 + e) 0 < 256
+    → classByte (readTable image .table) e ≡ getD image (4 + e) 0
+unfolding readTable tableIn
+class-is-byte image h e l small =
+    let there : e < eventsIn image = rw h at l in
+    rw h
+    (ap₂ (λ (a b : Bool). bit a ▸ 1 ∶ bit b ▸ 6 ∶ 0) (set-has (isControllableIn image) (eventsIn image) e there)
+    (set-has (isCausableIn image) (eventsIn image) e there)
+    ∙ class-again image (classBit e) (table-readable image h .class-clear e there)
+    ∙ byte-field image (4 + e) small)
 
 -- Reading what was written gives the marking back, with event places past the count 0.
 pub written-is-read : (m : Marking) (buffer : List ℕ) → writeNumber m (length buffer) ≡ 0

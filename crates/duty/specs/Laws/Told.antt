@@ -1,12 +1,12 @@
 -- What is asked for is told where nothing is in the way: reading comes first, then whether it exists, then the room. A relation in its five
--- numbers and the classes of an event, of a table that was read. Assumes nothing.
+-- numbers and the class byte of an event, of a table that was read. Assumes nothing.
 use mathlib.Core.Path.{_≡_, _∙_, ap, sym, subst}
 use mathlib.Core.Bool.{not}
 use mathlib.Core.List.{List, _++_}
-use Prim.Native.Nat.{ℕ, _<_, _≤_}
+use Prim.Native.Nat.{ℕ, _+_, _<_, _≤_}
 use native.Mathlib.Omega.{arith}
 use lib.Dec.{ltb}
-use lib.ListN.{length, drop}
+use lib.ListN.{length, getD, drop}
 use borrow.Author.Tests.{ltb-true, ltb-false, not-false}
 use Rattle.rules.specs.declared.TableAnswer.{TableAnswer}
 use Rattle.rules.specs.Numbers.{_if_, _else_, done}
@@ -18,7 +18,7 @@ use Rattle.rules.specs.Building.{numbersFrom, relationToldNumber, relationTold,
 use Rattle.rules.specs.Shapes.Good.{GoodTable}
 use Rattle.rules.specs.Laws.Numbers.{if-done, both-done}
 use Rattle.rules.specs.Laws.Judge.{good-table}
-use Rattle.image.specs.Theorems.{read-table-accepted}
+use Rattle.image.specs.Theorems.{read-table-accepted, read-table-exact, class-is-byte}
 use Rattle.duty.specs.Laws.Answered.{left}
 
 -- of so many one that exists
@@ -88,11 +88,19 @@ module _ (table : List ℕ) (read : TableAnswer) (read-is : read ≡ readTable t
         number-is ∙ rw asked-is (ap (λ (a : TableAnswer). a .number else 8 if not (ltb event (a .table .events))) read-is)
 
     module _ (h : number ≡ 0) where
-      pub class-there : event < 64
-      class-there =
-          let parts = both-done (read .number) asked (sym number-is ∙ h) in
-          omega (arith, existing (read .table .events) event (sym asked-is ∙ parts .1), table-good (parts .0) .few-events)
+      parts : (read .number ≡ 0) × (asked ≡ 0)
+      parts = both-done (read .number) asked (sym number-is ∙ h)
 
-      pub class-told : (byte before : ℕ) → byte ≡ classByte (read .table) event → byte ≡ done number (classByte (tableOf table) event) before
+      there : (readTable table .number ≡ 0) × (event < readTable table .table .events)
+      there = (
+        sym (ap (λ (a : TableAnswer). a .number) read-is) ∙ parts .0,
+        subst (λ (a : TableAnswer). event < a .table .events) read-is (existing (read .table .events) event (sym asked-is ∙ parts .1)),
+      )
+
+      -- its byte stands in the image
+      pub class-there : 4 + event < length table
+      class-there = omega (arith, there .1, read-table-exact table (there .0))
+
+      pub class-told : getD table (4 + event) 0 < 256 → (before : ℕ) → getD table (4 + event) 0 ≡ done number (classByte (tableOf table) event) before
       unfolding tableOf
-      class-told byte before e = e ∙ ap (λ (a : TableAnswer). classByte (a .table) event) read-is ∙ rw h
+      class-told small before = sym (class-is-byte table (there .0) event (there .1) small) ∙ rw h
