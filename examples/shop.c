@@ -1,9 +1,11 @@
 /*
  * The shop example P of docs/RULES.md, from C: a leak asks for a flush within three minutes, the flush waits for the isolating valve, and when
- * the duty is due the engine itself isolates, drains and flushes. The table is built from plain numbers, and shown in its bytes.
+ * the duty is due the engine itself isolates, drains and flushes. The table is built from plain numbers, and shown in its bytes. A flush that is
+ * only tried, in an offered list, is not counted; one that is done is.
  */
 #include "duty.h"
 #include "shop.h"
+#include <inttypes.h>
 #include <stdio.h>
 
 static const char *const names[EVENTS] = {"leak", "flush", "isolate", "standby", "drain"};
@@ -56,6 +58,13 @@ static void say_hold_up(size_t event)
         printf("  %s is %s\n", names[event], kind == DUTY_ENABLED ? "enabled" : "excluded");
 }
 
+static void say_count(size_t event)
+{
+    uint32_t fields[DUTY_FIELDS];
+    if (duty_record(table, sizeof table, marking, sizeof marking, event, fields, DUTY_FIELDS) == DUTY_DONE)
+        printf("  count of %s: %" PRIu32 "\n", names[event], fields[DUTY_EXECUTIONS]);
+}
+
 static void guarded_tick(void)
 {
     uint8_t caused[EVENTS] = {0}, reason = 0;
@@ -90,7 +99,9 @@ int main(void)
     say("offered remedies",
         duty_remedies(table, sizeof table, marking, sizeof marking, preferred, sizeof preferred, fallback, sizeof fallback, &list, &length));
     printf("  the first %zu of the %s list\n", length, list == DUTY_PREFERRED ? "preferred" : "fallback");
+    say_count(FLUSH);
 
     guarded_tick();
+    say_count(FLUSH);
     return 0;
 }

@@ -12,31 +12,32 @@
  *   - nothing that a call may write (a parameter without const) overlaps anything else that it is handed. What is only read may overlap;
  *   - no other thread or interrupt touches what is lent while a call runs. There is no state between calls.
  *
- * Images. `table` is a table image and `marking` a marking image for the table's events: exactly so long, 8 bytes per event. Bits count from the
- * highest bit of the first byte on; each field has its highest bit first, and fields follow each other without a gap. Spare bits are 0.
+ * Images. `table` is a table image and `marking` a marking image for the table's events: exactly so long, 12 bytes per event. Bits count from
+ * the highest bit of the first byte on; each field has its highest bit first, and fields follow each other without a gap. Spare bits are 0.
  *
  *   Table image, 4 + events + 6 * relations bytes:
  *     header, 4 bytes            events 7 bits, relations 9, spare 16
  *     for each event, 1 byte     controllable 1, causable 1, spare 6
  *     for each relation, 6 bytes kind 3, left 6, right 6, bounded 1, time 30, spare 2
- *   Marking image, 8 * events bytes:
- *     for each event, 8 bytes    happened 1, age 30, included 1, pending 1, bounded 1, deadline 30
+ *   Marking image, 12 * events bytes:
+ *     for each event, 12 bytes   happened 1, age 30, included 1, pending 1, bounded 1, deadline 30, count 32
  *
  *   As bytes, where / cuts off what is below 1 and % is what it leaves:
  *     header    [0] = events * 2 + relations / 256, [1] = relations % 256, [2] = [3] = 0
  *     class     controllable * 128 + causable * 64
  *     relation  [0] = kind * 32 + left / 2, [1] = left % 2 * 128 + right * 2 + bounded, [2] to [5] = time * 4, high byte first
- *     record    [0] to [3] = happened * 2^31 + age * 2 + included, [4] to [7] = pending * 2^31 + bounded * 2^30 + deadline, high byte first
+ *     record    [0] to [3] = happened * 2^31 + age * 2 + included, [4] to [7] = pending * 2^31 + bounded * 2^30 + deadline,
+ *               [8] to [11] = count, each high byte first
  *
  *   What fits: 1 to 64 events and 0 to 256 relations; left and right below the events; ages, times and deadlines at most 1,000,000,000.
  *     Condition: bounded 1, any time. Response: bounded 1 and a time of 1 or more, or 0 and 0 for "eventually". Any other kind: 0 and 0.
- *     Age is 0 if not happened, bounded 0 if not pending, deadline 0 if not bounded.
+ *     Age is 0 if not happened, bounded 0 if not pending, deadline 0 if not bounded. Count is 0 if not happened, else 1 or more.
  *   docs/RULES.md has bit positions, and an example byte by byte.
  *
  * Answers. A function returns 0 for done, or the number of the refusal. The numbers are tried in this order: the table's (1 under 4 bytes;
  * 2 and 3 of the header; 1; 2 of the classes; then for each relation 2, 4, 5, 6), the marking's (1, then 7), then those named with the
  * function, in the order named. Of an image that a function is not handed there is nothing to try: duty_relation and duty_class give the
- * table's numbers and then their own, duty_write_table and duty_fresh their own alone.
+ * table's numbers and then their own, duty_write_table, duty_fresh and duty_carry their own alone.
  *
  * A refusal writes nothing at all; a call that is done writes what is said and no byte past it. The one exception: 12 has a reason and a
  * place, and writes those two. An acting function (request, report, ticks, run) that is done puts the new marking's image where the old one
@@ -44,11 +45,11 @@
  *
  * Stack. Bytes that a call takes at most on x86-64, its callers and what they lend not counted, nor memcpy and memset of the C library. They
  * are measured, of the compiled library, and not proved: docs/BENCH.md, 'Stack', says how. There is no recursion and no heap.
- *     duty_guarded_tick 29,920    duty_run 29,376         duty_check 26,448         duty_closure 25,008
- *     duty_request 22,864         duty_report 22,864      duty_plain_tick 22,864    duty_margin 22,784
- *     duty_enabled 20,704         duty_hold_up 20,704     duty_due 19,664           duty_record 17,824
- *     duty_remedies 17,680        duty_judge 17,024       duty_relation 12,560      duty_class 10,480
- *     duty_write_table 4,448      duty_fresh 3,184        duty_size, duty_lowest 8
+ *     duty_guarded_tick 31,232    duty_run 31,200         duty_check 27,248         duty_closure 26,064
+ *     duty_request 24,176         duty_report 24,176      duty_plain_tick 24,176    duty_margin 24,096
+ *     duty_enabled 22,016         duty_hold_up 22,016     duty_due 20,720           duty_record 18,880
+ *     duty_remedies 18,448        duty_judge 17,824       duty_relation 12,560      duty_class 10,480
+ *     duty_write_table 4,448      duty_fresh 4,208        duty_carry 3,184          duty_size, duty_lowest 8
  */
 #ifndef DUTY_H
 #define DUTY_H
@@ -60,8 +61,10 @@
 extern "C" {
 #endif
 
-/* It grows by one wherever a function, a number or an image is changed, so that code written for another one can refuse to compile. */
-#define DUTY_VERSION 2
+/* It grows by one wherever a function, a number or an image is changed, so that code written for another one can refuse to compile.
+   3, since 2: a record has 12 bytes in place of 8, the last 4 of them its count, and an old marking image is refused with 1; duty_carry makes a
+   new one of it; 7 is given also for a count that disagrees with happened; duty_record tells 7 fields in place of 6, and asks for 7 places. */
+#define DUTY_VERSION 3
 
 /* A compiler that knows these words warns where a null pointer, or an overlap with what is written, can be seen. */
 #if defined(__GNUC__)
@@ -122,24 +125,35 @@ enum duty_step {
 enum {
     DUTY_HEADER_BYTES = 4,
     DUTY_RELATION_BYTES = 6,
-    DUTY_RECORD_BYTES = 8,
+    DUTY_RECORD_BYTES = 12,
+    DUTY_OLD_RECORD_BYTES = 8,      /* of a record before it had a count */
     DUTY_MOST_EVENTS = 64,
     DUTY_MOST_RELATIONS = 256,
     DUTY_MOST_STEPS = 4096,
     DUTY_LONGEST_LIST = 255,        /* events of an offered list */
     DUTY_LONGEST_TABLE = 1604,      /* bytes of a table image: 4 + 64 + 6 * 256 */
-    DUTY_LONGEST_MARKING = 512,     /* bytes of a marking image: 8 * 64 */
+    DUTY_LONGEST_MARKING = 768,     /* bytes of a marking image: 12 * 64 */
     DUTY_LIMIT = 1000000000         /* the largest age, time and deadline */
 };
+
+/* The largest count: one that is there stays there. */
+#define DUTY_COUNT_LIMIT UINT32_MAX
 
 /* Images */
 
 /* The number that reading both images gives: 0, or 1 to 7. */
 DUTY_CALL uint8_t duty_judge(const uint8_t *table, size_t table_length, const uint8_t *marking, size_t marking_length);
 
-/* A fresh marking for so many events: not happened, included, not pending. 3 where they are 0 or above 64; 14 where the buffer has fewer than
-   8 bytes per event. Done, the first 8 bytes per event are written. */
+/* A fresh marking for so many events: not happened, included, not pending, count 0. 3 where they are 0 or above 64; 14 where the buffer has
+   fewer than 12 bytes per event. Done, the first 12 bytes per event are written. */
 DUTY_CALL uint8_t duty_fresh(size_t events, uint8_t *DUTY_ALONE marking, size_t marking_length);
+
+/* An old marking image, of the time before counts, for so many events: 8 bytes per event, which are a record's without its count. Each record is
+   carried over with its fields as they are, and with count 1 if the event has happened, else 0. 3 where the events are 0 or above 64; 1 where the
+   old image has not 8 bytes per event; 7 where an old record breaks the rules that it had; 14 where the buffer has fewer than 12 bytes per event.
+   Done, the first 12 bytes per event are written, and they are an image that is read. The buffer is another than the old image's: nothing is
+   carried over in place. */
+DUTY_CALL uint8_t duty_carry(size_t events, const uint8_t *old_marking, size_t old_length, uint8_t *DUTY_ALONE marking, size_t marking_length);
 
 /* A table's image, built from plain numbers: a class byte for each event, and for each relation five numbers, as duty_place has them, one
    relation behind the other; `relations_length` counts the numbers. Each is judged as it stands: none is cut down to the width of its field.
@@ -168,9 +182,19 @@ DUTY_CALL uint32_t duty_lowest(uint64_t set);
 DUTY_CALL uint8_t duty_enabled(const uint8_t *table, size_t table_length, const uint8_t *marking, size_t marking_length,
                                size_t event, uint8_t *DUTY_ALONE enabled);
 
-/* What the marking has of an event: the six fields of its record in the image's order, each in a place of its own, a flag as 0 or 1. `fields`
-   has at least 6 places, of which the first 6 are written. 8, then 14 where there are fewer. */
-enum duty_field { DUTY_HAPPENED = 0, DUTY_AGE = 1, DUTY_INCLUDED = 2, DUTY_PENDING = 3, DUTY_BOUNDED = 4, DUTY_DEADLINE = 5, DUTY_FIELDS = 6 };
+/* What the marking has of an event: the seven fields of its record in the image's order, each in a place of its own, a flag as 0 or 1. `fields`
+   has at least 7 places, of which the first 7 are written. 8, then 14 where there are fewer. The last is the count, how often it was executed: by a
+   request, a report or a guarded tick, up to DUTY_COUNT_LIMIT; what duty_remedies tries is not counted. */
+enum duty_field {
+    DUTY_HAPPENED = 0,
+    DUTY_AGE = 1,
+    DUTY_INCLUDED = 2,
+    DUTY_PENDING = 3,
+    DUTY_BOUNDED = 4,
+    DUTY_DEADLINE = 5,
+    DUTY_EXECUTIONS = 6,
+    DUTY_FIELDS = 7
+};
 DUTY_CALL uint8_t duty_record(const uint8_t *table, size_t table_length, const uint8_t *marking, size_t marking_length,
                               size_t event, uint32_t *DUTY_ALONE fields, size_t fields_length);
 

@@ -6,7 +6,8 @@
  * list as they are afterwards, as long as they came. Numbers are little-endian, and the out-parameters start as bytes 0xEE. The ticks and the
  * size take the first half of a large one; the places of a record's fields, or of a relation's numbers, are the second list, 4 bytes each.
  * A table is written to the second list: asked are the events, the first list is the classes, and in place of the marking come the
- * relations' numbers, 4 bytes each, bytes behind the last whole one not counted.
+ * relations' numbers, 4 bytes each, bytes behind the last whole one not counted. An old marking is carried over from the first list to the
+ * second: asked are the events.
  */
 #include "duty.h"
 #include <stdio.h>
@@ -98,6 +99,7 @@ int main(void)
             pack(&second);
             break;
         case 19: number = duty_class(TABLE, asked, &small); break;
+        case 20: number = duty_carry(asked, FIRST, SECOND); break;
         default: return 1;
         }
         if (call == 5 || call == 11)

@@ -107,8 +107,6 @@ struct images {
     struct lent table, marking, caused, answers, fields;
 };
 
-enum { FIELDS = 6 };
-
 #define T(i) (i).table.bytes, (i).table.length
 #define M(i) (i).marking.bytes, (i).marking.length
 
@@ -119,7 +117,7 @@ static struct images take(const void *table, size_t table_length, const void *ma
     i.marking = lend(marking, marking_length);
     i.caused = lend(NULL, DUTY_MOST_EVENTS);
     i.answers = lend(NULL, 8);
-    i.fields = lend(NULL, FIELDS * sizeof(uint32_t));
+    i.fields = lend(NULL, DUTY_FIELDS * sizeof(uint32_t));
     shut(i.table);
     return i;
 }
@@ -248,26 +246,112 @@ static void plays_the_shop(void)
     leave(i);
 }
 
-/* The six places hold the record's fields in the image's order; a seventh stays; 8 comes before 14, and a refusal writes nothing. */
+/* The seven places hold the record's fields in the image's order; an eighth stays; 8 comes before 14, and a refusal writes nothing. */
 static void tells_records(void)
 {
-    static const uint32_t flush[FIELDS] = {0, 0, 1, 1, 1, 0}, leak[FIELDS] = {1, 3, 1, 0, 0, 0}, isolate[FIELDS] = {0, 0, 1, 0, 0, 0};
-    static const uint32_t drain[FIELDS] = {0, 0, 1, 1, 0, 0};
-    uint32_t seven[FIELDS + 1] = {9, 9, 9, 9, 9, 9, 9};
+    static const uint32_t flush[DUTY_FIELDS] = {0, 0, 1, 1, 1, 0, 0}, leak[DUTY_FIELDS] = {1, 3, 1, 0, 0, 0, 1};
+    static const uint32_t isolate[DUTY_FIELDS] = {0, 0, 1, 0, 0, 0, 0}, drain[DUTY_FIELDS] = {0, 0, 1, 1, 0, 0, 0};
+    uint32_t eight[DUTY_FIELDS + 1] = {9, 9, 9, 9, 9, 9, 9, 9};
     struct images i = shop_due();
     shut(i.marking);
     CHECK(record(i, FLUSH) == DUTY_DONE && memcmp(i.fields.bytes, flush, sizeof flush) == 0 && kept_before(i.fields));
     CHECK(record(i, LEAK) == DUTY_DONE && memcmp(i.fields.bytes, leak, sizeof leak) == 0);
     CHECK(record(i, DRAIN) == DUTY_DONE && memcmp(i.fields.bytes, drain, sizeof drain) == 0);
-    CHECK(duty_record(T(i), M(i), ISOLATE, seven, FIELDS + 1) == DUTY_DONE && memcmp(seven, isolate, sizeof isolate) == 0 && seven[FIELDS] == 9);
+    CHECK(duty_record(T(i), M(i), ISOLATE, eight, DUTY_FIELDS + 1) == DUTY_DONE);
+    CHECK(memcmp(eight, isolate, sizeof isolate) == 0 && eight[DUTY_FIELDS] == 9);
     shut(i.fields);
     CHECK(record(i, EVENTS) == DUTY_NONE_SUCH);
     CHECK(record(i, SIZE_MAX) == DUTY_NONE_SUCH);
-    i.fields.length -= sizeof(uint32_t);
+    i.fields.length -= sizeof(uint32_t); /* 6 places */
     CHECK(record(i, EVENTS) == DUTY_NONE_SUCH);
     CHECK(record(i, EVENTS - 1) == DUTY_ROOM);
     i.fields.length = 0;
     CHECK(record(i, 0) == DUTY_ROOM);
+    leave(i);
+}
+
+/* Counting */
+
+/* how often an event was executed, as duty_record tells it */
+static uint32_t executions(struct images i, size_t event)
+{
+    CHECK(record(i, event) == DUTY_DONE);
+    return ((const uint32_t *)(const void *)i.fields.bytes)[DUTY_EXECUTIONS];
+}
+
+/* for each event, how often */
+static int counted(struct images i, const uint32_t *times)
+{
+    for (size_t e = 0; e < EVENTS; e++)
+        if (executions(i, e) != times[e])
+            return 0;
+    return 1;
+}
+
+/* an event that has happened so often, just now */
+static void set_executions(struct images i, size_t event, uint32_t times)
+{
+    uint8_t *bytes = i.marking.bytes + DUTY_RECORD_BYTES * event;
+    bytes[0] = 0x80;
+    for (int k = 0; k < 4; k++)
+        bytes[DUTY_OLD_RECORD_BYTES + k] = (uint8_t)(times >> (24 - 8 * k));
+}
+
+/* Each execution counts its own event, by whichever call; a refusal, a tick without a duty and lists that are only tried count nothing. */
+static void counts_executions(void)
+{
+    static const uint8_t preferred[] = {FLUSH, ISOLATE, DRAIN}, fallback[] = {DRAIN, ISOLATE, FLUSH, ISOLATE};
+    static const uint8_t steps[] = {1, LEAK, 0, ISOLATE, 1, LEAK, 0, DRAIN, 0, FLUSH, 1, FLUSH, 3, 0};
+    static const uint8_t answers[] = {0, 0, 0, 0, 0, 9, 0};
+    struct images i = shop();
+    CHECK(counted(i, (const uint32_t[EVENTS]){0}));
+    CHECK(duty_request(T(i), M(i), ISOLATE) == DUTY_DONE && duty_request(T(i), M(i), ISOLATE) == DUTY_DONE);
+    CHECK(counted(i, (const uint32_t[EVENTS]){[ISOLATE] = 2}));
+    leave(i);
+
+    i = shop_due();
+    CHECK(counted(i, (const uint32_t[EVENTS]){[LEAK] = 1}));
+    CHECK(duty_request(T(i), M(i), FLUSH) == DUTY_NOT_ENABLED && duty_plain_tick(T(i), M(i)) == DUTY_IS_DUE);
+    shut(i.marking);
+    CHECK(duty_remedies(T(i), M(i), preferred, 3, fallback, 4, SMALL, PLACE) == DUTY_DONE && *SMALL == DUTY_FALLBACK && *PLACE == 3);
+    CHECK(duty_remedies(T(i), M(i), fallback, 4, fallback, 4, SMALL, PLACE) == DUTY_DONE && *SMALL == DUTY_PREFERRED && *PLACE == 3);
+    CHECK(duty_remedies(T(i), M(i), fallback, 2, preferred, 3, SMALL, PLACE) == DUTY_NO_REMEDY);
+    CHECK(counted(i, (const uint32_t[EVENTS]){[LEAK] = 1}));
+    open_up(i.marking);
+    CHECK(guarded(i) == DUTY_DONE && *COUNT == 3);
+    CHECK(counted(i, (const uint32_t[EVENTS]){[LEAK] = 1, [FLUSH] = 1, [ISOLATE] = 1, [DRAIN] = 1}));
+    CHECK(duty_remedies(T(i), M(i), fallback, 4, preferred, 3, SMALL, PLACE) == DUTY_DONE && *SMALL == DUTY_PREFERRED && *PLACE == 0);
+    CHECK(duty_report(T(i), M(i), STANDBY) == DUTY_DONE && guarded(i) == DUTY_DONE && *COUNT == 0);
+    CHECK(duty_request(T(i), M(i), FLUSH) == DUTY_NOT_ENABLED); /* excluded, and it has happened */
+    CHECK(counted(i, (const uint32_t[EVENTS]){1, 1, 1, 1, 1}));
+    CHECK(run(i, steps, sizeof steps) == DUTY_DONE && memcmp(i.answers.bytes, answers, sizeof answers) == 0);
+    CHECK(counted(i, (const uint32_t[EVENTS]){[LEAK] = 3, [FLUSH] = 2, [ISOLATE] = 2, [STANDBY] = 1, [DRAIN] = 2}));
+    leave(i);
+}
+
+/* At the limit a count stays, whichever call executes; one below it is reached. */
+static void holds_counts(void)
+{
+    static const uint8_t steps[] = {0, ISOLATE, 1, LEAK};
+    static const uint8_t held[] = {0x80, 0, 0, 3, 0, 0, 0, 0, 0xFF, 0xFF, 0xFF, 0xFF};
+    struct images i = shop();
+    set_executions(i, ISOLATE, DUTY_COUNT_LIMIT - 1);
+    CHECK(executions(i, ISOLATE) == DUTY_COUNT_LIMIT - 1);
+    CHECK(duty_request(T(i), M(i), ISOLATE) == DUTY_DONE && executions(i, ISOLATE) == DUTY_COUNT_LIMIT);
+    CHECK(duty_request(T(i), M(i), ISOLATE) == DUTY_DONE && executions(i, ISOLATE) == DUTY_COUNT_LIMIT);
+    set_executions(i, LEAK, DUTY_COUNT_LIMIT);
+    CHECK(duty_report(T(i), M(i), LEAK) == DUTY_DONE && executions(i, LEAK) == DUTY_COUNT_LIMIT);
+    CHECK(run(i, steps, sizeof steps) == DUTY_DONE && memcmp(i.answers.bytes, "\0\0", 2) == 0);
+    CHECK(executions(i, ISOLATE) == DUTY_COUNT_LIMIT && executions(i, LEAK) == DUTY_COUNT_LIMIT);
+    leave(i);
+
+    i = shop_due();
+    set_executions(i, FLUSH, DUTY_COUNT_LIMIT);
+    set_executions(i, DRAIN, DUTY_COUNT_LIMIT - 1);
+    CHECK(guarded(i) == DUTY_DONE && *COUNT == 3 && memcmp(i.caused.bytes, "\2\4\1", 3) == 0);
+    CHECK(counted(i, (const uint32_t[EVENTS]){1, DUTY_COUNT_LIMIT, 1, 0, DUTY_COUNT_LIMIT}));
+    CHECK(memcmp(i.marking.bytes + DUTY_RECORD_BYTES * FLUSH, held, sizeof held) == 0);
+    CHECK(duty_judge(T(i), M(i)) == DUTY_DONE && kept_before(i.marking));
     leave(i);
 }
 
@@ -372,15 +456,23 @@ static void runs(void)
     leave(other);
 }
 
-/* Document 01's two events: an uncontrollable one that is due is caused, and its response comes back to it. */
+/* The two events of docs/RULES.md, byte by byte: one that is due is caused, and its response comes back to it. */
+static const uint8_t hex_table[] = {0x04, 0x01, 0, 0, 0x40, 0x80, 0x40, 0x01, 0, 0, 0, 0x04};
+static const uint8_t hex_marking[2 * DUTY_RECORD_BYTES] = {0, 0, 0, 1, 0xC0, 0, 0, 0, 0, 0, 0, 0};
+static const uint8_t hex_after[2 * DUTY_RECORD_BYTES] = {0x80, 0, 0, 3, 0xC0, 0, 0, 0, 0, 0, 0, 1};
+
 static void answers_the_hex_case(void)
 {
-    static const uint8_t table[] = {0x04, 0x01, 0, 0, 0x40, 0x80, 0x40, 0x01, 0, 0, 0, 0x04};
-    static const uint8_t marking[16] = {0, 0, 0, 1, 0xC0, 0, 0, 0};
-    static const uint8_t after[16] = {0x80, 0, 0, 3, 0xC0, 0, 0, 0};
-    struct images i = take(table, sizeof table, marking, sizeof marking);
+    struct images i = take(hex_table, sizeof hex_table, hex_marking, sizeof hex_marking);
     CHECK(guarded(i) == DUTY_DONE && *COUNT == 1 && i.caused.bytes[0] == 0);
-    CHECK(memcmp(i.marking.bytes, after, sizeof after) == 0);
+    CHECK(memcmp(i.marking.bytes, hex_after, sizeof hex_after) == 0);
+    leave(i);
+
+    /* as the station program answers it, whose 25 bytes are the answer and the marking */
+    static const uint8_t steps[] = {3, 0};
+    i = take(hex_table, sizeof hex_table, hex_marking, sizeof hex_marking);
+    CHECK(run(i, steps, sizeof steps) == DUTY_DONE && i.answers.bytes[0] == 0 && i.answers.bytes[1] == 0xA5);
+    CHECK(1 + i.marking.length == 25 && memcmp(i.marking.bytes, hex_after, sizeof hex_after) == 0);
     leave(i);
 }
 
@@ -396,9 +488,101 @@ static void makes_fresh(void)
     CHECK(duty_fresh(EVENTS, l.bytes, DUTY_RECORD_BYTES * EVENTS - 1) == DUTY_ROOM);
     open_up(l);
     CHECK(duty_fresh(1, l.bytes, l.length) == DUTY_DONE);
-    CHECK(memcmp(l.bytes, "\0\0\0\1\0\0\0\0\xA5", 9) == 0 && kept_before(l));
-    CHECK(duty_fresh(64, l.bytes, l.length) == DUTY_DONE && l.bytes[8 * 63 + INCLUDED_BYTE] == 1);
+    CHECK(memcmp(l.bytes, "\0\0\0\1\0\0\0\0\0\0\0\0\xA5", DUTY_RECORD_BYTES + 1) == 0 && kept_before(l));
+    CHECK(duty_fresh(64, l.bytes, l.length) == DUTY_DONE && l.bytes[DUTY_RECORD_BYTES * 63 + INCLUDED_BYTE] == 1);
     give_back(l);
+}
+
+/* Carrying over */
+
+static uint8_t carry(size_t events, const void *old, size_t old_length, struct lent marking)
+{
+    struct lent l = lend(old, old_length);
+    shut(l);
+    uint8_t number = duty_carry(events, l.bytes, l.length, marking.bytes, marking.length);
+    give_back(l);
+    return number;
+}
+
+/* The number of what is not carried over: with the buffer shut. */
+static uint8_t uncarried(size_t events, const void *old, size_t old_length, size_t room)
+{
+    struct lent l = lend(NULL, room);
+    shut(l);
+    uint8_t number = carry(events, old, old_length, l);
+    give_back(l);
+    return number;
+}
+
+/* The old image of the hex case, after it: the one has happened, the other not. */
+static const uint8_t hex_old[2 * DUTY_OLD_RECORD_BYTES] = {0x80, 0, 0, 3, 0xC0, 0, 0, 0};
+
+/* What is carried over is the old bytes and a count of 1 or 0, a byte behind it stays, and it is read. */
+static void carries_over(void)
+{
+    static const uint32_t first[DUTY_FIELDS] = {1, 1, 1, 1, 1, 0, 1}, second[DUTY_FIELDS] = {0};
+    struct images i = take(hex_table, sizeof hex_table, NULL, sizeof hex_after);
+    CHECK(carry(2, hex_old, sizeof hex_old, i.marking) == DUTY_DONE);
+    CHECK(memcmp(i.marking.bytes, hex_after, sizeof hex_after) == 0 && kept_before(i.marking));
+    CHECK(record(i, 0) == DUTY_DONE && memcmp(i.fields.bytes, first, sizeof first) == 0);
+    CHECK(record(i, 1) == DUTY_DONE && memcmp(i.fields.bytes, second, sizeof second) == 0);
+    leave(i);
+
+    struct lent longer = lend(NULL, sizeof hex_after + 2);
+    CHECK(carry(2, hex_old, sizeof hex_old, longer) == DUTY_DONE);
+    CHECK(memcmp(longer.bytes, hex_after, sizeof hex_after) == 0 && memcmp(longer.bytes + sizeof hex_after, "\xA5\xA5", 2) == 0);
+    CHECK(kept_before(longer));
+    give_back(longer);
+
+    /* 64 events, of which every second has happened: all fields at their limits, and the empty record */
+    static const uint8_t full[] = {0xF7, 0x35, 0x94, 0x01, 0xFB, 0x9A, 0xCA, 0x00, 0, 0, 0, 1}, empty[DUTY_RECORD_BYTES] = {0};
+    static uint8_t old[DUTY_OLD_RECORD_BYTES * DUTY_MOST_EVENTS];
+    struct lent l = lend(NULL, DUTY_LONGEST_MARKING);
+    int same = 1;
+    for (size_t e = 0; e < DUTY_MOST_EVENTS; e += 2)
+        memcpy(old + DUTY_OLD_RECORD_BYTES * e, full, DUTY_OLD_RECORD_BYTES);
+    CHECK(carry(DUTY_MOST_EVENTS, old, sizeof old, l) == DUTY_DONE && kept_before(l));
+    for (size_t e = 0; e < DUTY_MOST_EVENTS; e++)
+        same &= memcmp(l.bytes + DUTY_RECORD_BYTES * e, e % 2 == 0 ? full : empty, DUTY_RECORD_BYTES) == 0;
+    CHECK(same);
+    give_back(l);
+}
+
+/* 3, 1, 7, 14 in this order, and nothing is written. */
+static void carries_nothing(void)
+{
+    static const struct {
+        uint8_t bytes[DUTY_OLD_RECORD_BYTES];
+    } broken[] = {
+        {{0, 0, 0, 2}},                         /* an age, not happened */
+        {{0x40}},                               /* the same, its highest bit */
+        {{0, 0, 0, 0, 0x40}},                   /* bounded, not pending */
+        {{0, 0, 0, 0, 0, 0, 0, 1}},             /* a deadline, not pending */
+        {{0, 0, 0, 0, 0x80, 0, 0, 1}},          /* a deadline, not bounded */
+        {{0xF7, 0x35, 0x94, 0x02}},             /* an age above the limit */
+        {{0, 0, 0, 0, 0xFB, 0x9A, 0xCA, 0x01}}, /* a deadline above the limit */
+    };
+    static const uint8_t many[DUTY_RECORD_BYTES * (DUTY_MOST_EVENTS + 1)] = {0};
+    uint8_t old[3 * DUTY_OLD_RECORD_BYTES];
+    CHECK(uncarried(0, many, 0, DUTY_LONGEST_MARKING) == DUTY_COUNTS);
+    CHECK(uncarried(0, many, 1, 0) == DUTY_COUNTS);
+    CHECK(uncarried(DUTY_MOST_EVENTS + 1, many, DUTY_OLD_RECORD_BYTES * (DUTY_MOST_EVENTS + 1), sizeof many) == DUTY_COUNTS);
+    CHECK(uncarried(SIZE_MAX, many, sizeof many, sizeof many) == DUTY_COUNTS);
+    CHECK(uncarried(3, many, 0, DUTY_LONGEST_MARKING) == DUTY_LENGTH);
+    CHECK(uncarried(3, many, sizeof old - 1, DUTY_LONGEST_MARKING) == DUTY_LENGTH);
+    CHECK(uncarried(3, many, sizeof old + 1, DUTY_LONGEST_MARKING) == DUTY_LENGTH);
+    CHECK(uncarried(3, many, 3 * DUTY_RECORD_BYTES, DUTY_LONGEST_MARKING) == DUTY_LENGTH); /* a new image */
+    CHECK(uncarried(3, broken, sizeof old + 1, 0) == DUTY_LENGTH);
+    for (size_t k = 0; k < sizeof broken / sizeof broken[0]; k++)
+        for (size_t e = 0; e < 3; e++) {
+            memset(old, 0, sizeof old);
+            memcpy(old + DUTY_OLD_RECORD_BYTES * e, broken[k].bytes, DUTY_OLD_RECORD_BYTES);
+            CHECK(uncarried(3, old, sizeof old, DUTY_LONGEST_MARKING) == DUTY_RECORD);
+            CHECK(uncarried(3, old, sizeof old, 0) == DUTY_RECORD);
+        }
+    CHECK(uncarried(3, many, sizeof old, 0) == DUTY_ROOM);
+    CHECK(uncarried(3, many, sizeof old, sizeof old) == DUTY_ROOM);
+    CHECK(uncarried(3, many, sizeof old, 3 * DUTY_RECORD_BYTES - 1) == DUTY_ROOM);
 }
 
 /* Building a table, and telling it */
@@ -621,11 +805,11 @@ static void tells_tables(void)
     builds(&d, shop_table);
 
     struct images i = shop();
-    uint32_t *places = (uint32_t *)(void *)i.fields.bytes;
+    uint32_t *places = (uint32_t *)(void *)i.fields.bytes, *last = places + DUTY_FIELDS - DUTY_NUMBERS;
     places[DUTY_NUMBERS] = 9;
     CHECK(relation(i, 3) == DUTY_DONE && memcmp(places, numbers + 15, 5 * sizeof numbers[0]) == 0 && places[DUTY_NUMBERS] == 9);
-    CHECK(duty_relation(T(i), 0, places + 1, DUTY_NUMBERS) == DUTY_DONE && memcmp(places + 1, numbers, 5 * sizeof numbers[0]) == 0);
-    CHECK(places[0] == DUTY_EXCLUSION && kept_before(i.fields));
+    CHECK(duty_relation(T(i), 0, last, DUTY_NUMBERS) == DUTY_DONE && memcmp(last, numbers, 5 * sizeof numbers[0]) == 0);
+    CHECK(last[-1] == STANDBY && kept_before(i.fields));
     CHECK(duty_class(T(i), DRAIN, SMALL) == DUTY_DONE && *SMALL == 0xC0 && kept_before(small));
     CHECK(duty_class(T(i), LEAK, SMALL) == DUTY_DONE && *SMALL == 0);
     shut(i.fields);
@@ -655,8 +839,8 @@ static void keeps_the_limits(void)
     for (k = 0; k < 256; k++)
         memcpy(table + 68 + 6 * k, "\x3F\xFF\xEE\x6B\x28\x00", 6);
     for (k = 0; k < 64; k++)
-        marking[8 * k + INCLUDED_BYTE] = 1;
-    struct images i = take(table, 4 + 64 + 6 * 256, marking, 8 * 64);
+        marking[DUTY_RECORD_BYTES * k + INCLUDED_BYTE] = 1;
+    struct images i = take(table, 4 + 64 + 6 * 256, marking, DUTY_LONGEST_MARKING);
     CHECK(duty_judge(T(i), M(i)) == DUTY_DONE);
     CHECK(duty_margin(T(i), M(i), 255, SMALL, TICKS) == DUTY_DONE && *SMALL == DUTY_NEVER);
     CHECK(duty_request(T(i), M(i), 0) == DUTY_CLASS && duty_report(T(i), M(i), 0) == DUTY_DONE && duty_report(T(i), M(i), 63) == DUTY_NOT_ENABLED);
@@ -664,12 +848,12 @@ static void keeps_the_limits(void)
     leave(i);
 
     table[68 + 6 * 255 + 5] = 0x04; /* time 1,000,000,001 */
-    table_refused(table, 4 + 64 + 6 * 256, marking, 8 * 64, DUTY_TIME);
+    table_refused(table, 4 + 64 + 6 * 256, marking, DUTY_LONGEST_MARKING, DUTY_TIME);
     table[1] = 1; /* 257 relations */
-    table_refused(table, 4 + 64 + 6 * 257, marking, 8 * 64, DUTY_COUNTS);
+    table_refused(table, 4 + 64 + 6 * 257, marking, DUTY_LONGEST_MARKING, DUTY_COUNTS);
     table[0] = 65 << 1;
     table[1] = 0;
-    table_refused(table, 4 + 65, marking, 8 * 65, DUTY_COUNTS);
+    table_refused(table, 4 + 65, marking, sizeof marking, DUTY_COUNTS);
     table[0] = 0;
     table_refused(table, 4, marking, 0, DUTY_COUNTS);
 
@@ -679,6 +863,7 @@ static void keeps_the_limits(void)
     table_refused(shop_table, sizeof shop_table - 1, bad_marking, sizeof bad_marking, DUTY_LENGTH);
     all_refused(shop_table, sizeof shop_table, bad_marking, 0, DUTY_LENGTH);
     all_refused(shop_table, sizeof shop_table, bad_marking, sizeof bad_marking - 1, DUTY_LENGTH);
+    all_refused(shop_table, sizeof shop_table, bad_marking, DUTY_OLD_RECORD_BYTES * EVENTS, DUTY_LENGTH);
     bad_marking[7] = 1; /* a deadline without a bound */
     all_refused(shop_table, sizeof shop_table, bad_marking, sizeof bad_marking, DUTY_RECORD);
     memcpy(bad_table, shop_table, sizeof bad_table);
@@ -688,15 +873,43 @@ static void keeps_the_limits(void)
     table_refused(bad_table, sizeof bad_table, bad_marking, 0, DUTY_SPARE);
 }
 
+/* A count that disagrees with happened, at the first event or the last, is given 7 by each call that reads the marking. */
+static void refuses_disagreeing_counts(void)
+{
+    static const struct {
+        uint8_t happened, count[4], number;
+    } counts[] = {
+        {0x00, {0, 0, 0, 0}, DUTY_DONE},
+        {0x00, {0, 0, 0, 1}, DUTY_RECORD},
+        {0x00, {0x80, 0, 0, 0}, DUTY_RECORD},
+        {0x00, {0xFF, 0xFF, 0xFF, 0xFF}, DUTY_RECORD},
+        {0x80, {0, 0, 0, 0}, DUTY_RECORD},
+        {0x80, {0, 0, 0, 1}, DUTY_DONE},
+        {0x80, {0, 1, 0, 0}, DUTY_DONE},
+        {0x80, {0xFF, 0xFF, 0xFF, 0xFF}, DUTY_DONE},
+    };
+    for (size_t k = 0; k < sizeof counts / sizeof counts[0]; k++)
+        for (size_t e = 0; e < EVENTS; e += EVENTS - 1) {
+            uint8_t marking[DUTY_RECORD_BYTES * EVENTS] = {0}, *bytes = marking + DUTY_RECORD_BYTES * e;
+            CHECK(duty_fresh(EVENTS, marking, sizeof marking) == DUTY_DONE);
+            bytes[0] = counts[k].happened;
+            memcpy(bytes + DUTY_OLD_RECORD_BYTES, counts[k].count, sizeof counts[k].count);
+            if (counts[k].number == DUTY_DONE)
+                CHECK(duty_judge(shop_table, sizeof shop_table, marking, sizeof marking) == DUTY_DONE);
+            else
+                all_refused(shop_table, sizeof shop_table, marking, sizeof marking, counts[k].number);
+        }
+}
+
 /* What is only read may overlap: the marking lies within the table's own memory. */
 static void reads_overlapping(void)
 {
-    uint8_t both[4 + 1 + 8] = {0x02, 0, 0, 0, 0};
+    uint8_t both[4 + 1 + DUTY_RECORD_BYTES] = {0x02, 0, 0, 0, 0};
     struct lent l = lend(both, sizeof both);
     shut(l);
-    CHECK(duty_judge(l.bytes, 5, l.bytes + 5, 8) == DUTY_DONE);
-    CHECK(duty_judge(l.bytes, 5, l.bytes + 1, 8) == DUTY_DONE);
-    CHECK(duty_judge(l.bytes, 5, l.bytes, 8) == DUTY_RECORD);
+    CHECK(duty_judge(l.bytes, 5, l.bytes + 5, DUTY_RECORD_BYTES) == DUTY_DONE);
+    CHECK(duty_judge(l.bytes, 5, l.bytes + 1, DUTY_RECORD_BYTES) == DUTY_DONE);
+    CHECK(duty_judge(l.bytes, 5, l.bytes, DUTY_RECORD_BYTES) == DUTY_RECORD);
     give_back(l);
 }
 
@@ -716,17 +929,22 @@ int main(void)
     count = lend(NULL, sizeof(size_t));
     plays_the_shop();
     tells_records();
+    counts_executions();
+    holds_counts();
     offers_remedies();
     refuses();
     rejects();
     runs();
     answers_the_hex_case();
     makes_fresh();
+    carries_over();
+    carries_nothing();
     builds_in_order();
     cuts_nothing_down();
     builds_at_the_limits();
     tells_tables();
     keeps_the_limits();
+    refuses_disagreeing_counts();
     reads_overlapping();
     counts_sets();
     printf("%d passed, %d failed\n", passed, failed);

@@ -1,4 +1,4 @@
-/* Misuse that a compiler sees by the header's words: with -DNULL_BUFFER or -DOVERLAP this is refused, with neither it is not. */
+/* Misuse that a compiler sees by the header's words: with -DNULL_BUFFER, -DOVERLAP or -DIN_PLACE this is refused, with none of them it is not. */
 #include "duty.h"
 
 uint8_t tick(const uint8_t *table, size_t table_length, uint8_t *marking, size_t marking_length);
@@ -12,5 +12,16 @@ uint8_t tick(const uint8_t *table, size_t table_length, uint8_t *marking, size_t
     return duty_plain_tick(marking, table_length, marking, marking_length) + (table == NULL);
 #else
     return duty_plain_tick(table, table_length, marking, marking_length);
+#endif
+}
+
+uint8_t carry(size_t events, const uint8_t *old, size_t old_length, uint8_t *marking, size_t marking_length);
+
+uint8_t carry(size_t events, const uint8_t *old, size_t old_length, uint8_t *marking, size_t marking_length)
+{
+#if defined(IN_PLACE)
+    return duty_carry(events, marking, old_length, marking, marking_length) + (old == NULL);
+#else
+    return duty_carry(events, old, old_length, marking, marking_length);
 #endif
 }

@@ -52,9 +52,9 @@ pendingAfter rows at pending e x = has pending x && not (eqb e x) || askedAt row
 abbrev pub boundedAfter : List ℕ → ℕ → ℕ → ℕ → ℕ → Bool
 boundedAfter rows at bounded e x = has bounded x && not (askedAt rows at x || eqb e x) || has (getD rows (at + 3) 0) x
 
--- the deadlines that e's bounded responses give stand in the second column, and the rest is as it was
+-- the deadlines that e's bounded responses give stand in the second column, and what stands elsewhere is as it was
 pub record Responded (t : Table) (e clock : ℕ) (before after : List ℕ) : Type 0 where
   pub same-size : length after ≡ length before
-  pub ages : (x : ℕ) → x < 64 → getD after x 0 ≡ getD before x 0
+  pub elsewhere : (place : ℕ) → ((x : ℕ) → x < 64 → place ≡ 64 + x → ⊥) → getD after place 0 ≡ getD before place 0
   pub deadlines : (x : ℕ) → x < 64
       → getD after (64 + x) 0 ≡ cond (isBounded (response t e x)) (clock + ticksOf (response t e x)) (getD before (64 + x) 0)

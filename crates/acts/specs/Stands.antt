@@ -1,5 +1,6 @@
 -- The marking that words stand for. The sets are happened, included, pending and bounded. The columns hold ticks of a clock: at which the age
--- of event e is full (place e), and at which its deadline is over (place 64 + e). So a tick moves the clock and nothing else.
+-- of event e is full (place e), and at which its deadline is over (place 64 + e); and its count (place 128 + e). So a tick moves the clock and
+-- nothing else.
 use mathlib.Core.Path.{_≡_}
 use mathlib.Core.Bool.{Bool, cond, _&&_}
 use mathlib.Core.List.{List, _++_}
@@ -28,6 +29,7 @@ recordIn clock sets columns e = record {
   included = has (getD sets 1 0) e;
   pending = has (getD sets 2 0) e;
   bounded = has (getD sets 3 0) e;
+  count = getD columns (128 + e) 0;
 }
 
 -- n events, and behind them the places that are not used
@@ -38,7 +40,7 @@ markingIn n tail clock sets columns = record { records = places n (recordIn cloc
 pub record Stands (n : ℕ) (tail : List Record) (clock : ℕ) (sets columns : List ℕ) (m : Marking) : Type 0 where
   pub few : n ≤ 64
   pub four-sets : length sets ≡ 4
-  pub two-columns : length columns ≡ 128
+  pub three-columns : length columns ≡ 192
   pub ages-begun : (x : ℕ) → x < n → getD columns x 0 ≤ clock + limit
   pub is : m ≡ markingIn n tail clock sets columns
 

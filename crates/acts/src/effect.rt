@@ -10,11 +10,12 @@ ghost use mathlib.Core.Path.{_≡_};
 ghost use mathlib.Core.Bool.{cond};
 ghost use mathlib.Core.List.{List};
 ghost use Prim.Native.Nat.{ℕ, _<_, _≤_, _+_, min};
-ghost use lib.ListN.{length, getD};
+ghost use lib.ListN.{length};
 ghost use Rattle.rules.specs.declared.Record.{Record};
 ghost use Rattle.rules.specs.declared.Marking.{Marking as Marked};
 ghost use Rattle.rules.specs.declared.Table.{Table};
 ghost use Rattle.rules.specs.EventSet.{has};
+ghost use Rattle.rules.specs.Holds.{countLimit};
 ghost use Rattle.rules.specs.Effect.{effect};
 ghost use Rattle.rules.specs.Shapes.Good.{GoodTable};
 ghost use Rattle.acts.specs.Derived.{Own};
@@ -61,10 +62,20 @@ fn earlier(known: bool, until: u32, old: u32) -> u32
     until
 }
 
+// A count of one execution more, held at its limit.
+fn counted(count: u32) -> u32
+    ensures { λ r. ⌜ r ≡ min (count + 1) countLimit ⌝ }
+{
+    if count < Marking::COUNT_LIMIT {
+        return count + 1;
+    }
+    count
+}
+
 // The deadlines that the event's responses give. The walk ends since the numbers of its links fall.
 fn answered(rows: &[u64], at: usize, links: &[u64], clock: u32, columns: &mut Columns)
     requires { ⌜ (at + 10 ≤ length (now rows)) × (length (now links) ≡ 256) × (clock ≤ 2147483648) ⌝ }
-    ensures { λ _. ⌜ ((t : Table) (e : ℕ) → GoodTable t → Own t (t .count) e (now (rows .entry)) at (now (links .entry)) → length (now (columns .entry)) ≡ 128
+    ensures { λ _. ⌜ ((t : Table) (e : ℕ) → GoodTable t → Own t (t .count) e (now (rows .entry)) at (now (links .entry)) → length (now (columns .entry)) ≡ 192
         → Responded t e clock (now (columns .entry)) (now (columns .exit))) ⌝ }
 {
     let mut next = rows[at + derived::RESPONSES] % 512;
@@ -108,6 +119,8 @@ pub fn effect(
     sets[laid::INCLUDED] = included_after(rows, at, included);
     sets[laid::PENDING] = pending_after(rows, at, pending, e);
     sets[laid::BOUNDED] = bounded_after(rows, at, bounded, e);
+    let place = laid::COUNTS + e;
+    columns[place] = counted(columns[place]);
     columns[laid::AGES + e] = clock + Marking::AGE_LIMIT;
     answered(rows, at, links, clock, columns);
 }

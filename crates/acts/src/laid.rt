@@ -1,5 +1,5 @@
-// The marking as words, lent: four sets of events, and for each event, in columns, the tick at which its age is full and the tick at which
-// its deadline is over. They are told against a clock, so a tick moves the clock and nothing else.
+// The marking as words, lent: four sets of events, and for each event, in columns, the tick at which its age is full, the tick at which its
+// deadline is over, and its count. The ticks are told against a clock, so a tick moves the clock and nothing else.
 use crate::event_set;
 use rules::Marking;
 use rules::Record;
@@ -7,7 +7,7 @@ ghost use mathlib.Core.Path.{_≡_};
 ghost use mathlib.Core.Bool.{_&&_, _||_};
 ghost use Prim.Native.Nat.{ℕ, _<_, _≤_, _-_};
 ghost use lib.Dec.{eqb};
-ghost use lib.ListN.{length, getD, drop};
+ghost use lib.ListN.{length, drop};
 ghost use Rattle.rules.specs.declared.Marking.{Marking as Marked};
 ghost use Rattle.rules.specs.EventSet.{has};
 ghost use Rattle.rules.specs.Holds.{limit};
@@ -23,13 +23,15 @@ pub const PENDING: usize = 2;
 
 pub const BOUNDED: usize = 3;
 
-// Where a column begins: the ticks at which ages are full, then the ticks at which deadlines are over.
+// Where a column begins: the ticks at which ages are full, then the ticks at which deadlines are over, then the counts.
 pub const AGES: usize = 0;
 
 pub const DEADLINES: usize = 64;
 
+pub const COUNTS: usize = 128;
+
 // 64 places for each column.
-pub type Columns = [u32; 128];
+pub type Columns = [u32; 192];
 
 // The set, with the event if so.
 fn with_if(set: u64, so: bool, e: usize) -> u64
@@ -62,7 +64,7 @@ fn to_go(until: u32, clock: u32) -> u32
 // A judged marking into words, at tick 0.
 pub fn lay(m: Marking, sets: &mut [u64; 4], columns: &mut Columns)
     requires { ⌜ m .events ≤ 64 ⌝ }
-    requires { ⌜ (length (now sets) ≡ 4) × (length (now columns) ≡ 128) ⌝ }
+    requires { ⌜ (length (now sets) ≡ 4) × (length (now columns) ≡ 192) ⌝ }
     ensures { λ _. ⌜ (GoodMarking (m .events) m → Stands (m .events) (drop (m .events) (m .records)) 0 (now (sets .exit)) (now (columns .exit)) m) ⌝ }
 {
     let n = m.events;
@@ -75,6 +77,7 @@ pub fn lay(m: Marking, sets: &mut [u64; 4], columns: &mut Columns)
         let r = m.records[i];
         columns[i] = to_full(r.age);
         columns[DEADLINES + i] = r.deadline;
+        columns[COUNTS + i] = r.count;
         happened = with_if(happened, r.happened, i);
         included = with_if(included, r.included, i);
         pending = with_if(pending, r.pending, i);
@@ -114,6 +117,7 @@ fn record_at(clock: u32, sets: &[u64; 4], columns: &Columns, e: usize) -> Record
     } else {
         0
     };
+    let count = columns[COUNTS + e];
     Record {
         age,
         deadline,
@@ -121,6 +125,7 @@ fn record_at(clock: u32, sets: &[u64; 4], columns: &Columns, e: usize) -> Record
         included,
         pending,
         bounded,
+        count,
     }
 }
 

@@ -28,8 +28,12 @@ use Rattle.duty.proofs.duty_check.Kinds as check-kinds
 use Rattle.duty.proofs.duty_check.Reads as check
 use Rattle.duty.proofs.duty_guarded_tick.Kinds as guarded-tick-kinds
 use Rattle.duty.proofs.duty_guarded_tick.Reads as guarded-tick
+use Rattle.duty.proofs.duty_remedies.Kinds as remedies-kinds
+use Rattle.duty.proofs.duty_remedies.Reads as remedies
 use Rattle.duty.proofs.duty_run.Kinds as run-kinds
 use Rattle.duty.proofs.duty_run.Reads as run
+use Rattle.duty.proofs.duty_record.Kinds as record-kinds
+use Rattle.duty.proofs.duty_record.Reads as record-reads
 
 -- a call that keeps its promise: what it is handed, what it answers, and what the lent arguments hold afterwards. Arguments go by their place in
 -- the call's signature: `.0` the table image, `.1 .0` the marking's buffer, `.1 .1 .0` the next one, and so on
@@ -58,6 +62,12 @@ GuardedTick = Made 6 guarded-tick-kinds.ps guarded-tick-kinds.r guarded-tick.Lea
 abbrev pub Run : Type 0
 Run = Made 4 run-kinds.ps run-kinds.r run.Learnt
 
+abbrev pub Remedies : Type 0
+Remedies = Made 6 remedies-kinds.ps remedies-kinds.r remedies.Learnt
+
+abbrev pub Record : Type 0
+Record = Made 3 record-kinds.ps record-kinds.r record-reads.Learnt
+
 -- the events that a guarded tick tells: the first `count` of the buffer lent for them
 abbrev pub count : GuardedTick → ℕ
 count call = call .left .1 .1 .1 .0 .now
@@ -66,7 +76,7 @@ abbrev pub listed : GuardedTick → List ℕ
 listed call = take (count call) (call .left .1 .1 .0 .now)
 
 -- a chain of calls, each handed the same table image and the marking's bytes as the call before left them, and its steps; a guarded tick or a
--- trace that is refused has none
+-- trace that is refused has none, and so have offered lists
 pub data Chained (table : List ℕ) : List ℕ → List Step → List ℕ → Type 0 where
   none : {marking : List ℕ} → Chained table marking [] marking
   requested : {marking end : List ℕ} {steps : List Step} (call : Request) → call .handed .0 .now ≡ table → call .handed .1 .0 .now ≡ marking
@@ -80,8 +90,11 @@ pub data Chained (table : List ℕ) : List ℕ → List Step → List ℕ → Ty
   ran : {marking end : List ℕ} {steps : List Step} (call : Run) → call .handed .0 .now ≡ table → call .handed .1 .0 .now ≡ marking
       → Chained table (call .left .1 .0 .now) steps end
       → Chained table marking (done (call .answer) (stepsIn (call .handed .1 .1 .0 .now)) [] ++ steps) end
+  -- lists are offered and tried; the marking is lent to be read alone, so what comes next is handed the same bytes
+  offered : {marking end : List ℕ} {steps : List Step} (call : Remedies) → call .handed .0 .now ≡ table → call .handed .1 .0 .now ≡ marking
+      → Chained table marking steps end → Chained table marking steps end
 
--- what a chain comes to, read off the answers and the buffers: a call that was refused comes to nothing
+-- what a chain comes to, read off the answers and the buffers: a call that was refused comes to nothing, and so do offered lists
 unfoldable pub actsIn : {table marking end : List ℕ} {steps : List Step} → Chained table marking steps end → List Act
 actsIn none = []
 actsIn (requested call p q rest) = done (call .answer) (executes (call .handed .1 .1 .0) ∷ []) [] ++ actsIn rest
@@ -90,6 +103,7 @@ actsIn (ticked call p q rest) = done (call .answer) (passes ∷ []) [] ++ actsIn
 actsIn (guardedly call p q rest) = done (call .answer) (thenPass (listed call)) [] ++ actsIn rest
 actsIn {table} {marking} (ran call p q rest) =
     done (call .answer) (historyOf (tableOf table) (markingOf table marking) (stepsIn (call .handed .1 .1 .0 .now))) [] ++ actsIn rest
+actsIn (offered call p q rest) = actsIn rest
 
 -- What a guarded tick answers and leaves, on a table image and a marking image.
 pub record Ticked (table marking : List ℕ) (call : GuardedTick) : Type 0 where

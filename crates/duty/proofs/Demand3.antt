@@ -24,13 +24,13 @@ use Rattle.rules.specs.Effect.{effect}
 use Rattle.rules.specs.Time.{time, plainTickNumber, plainTick}
 use Rattle.rules.specs.Check.{check, toldCheck}
 use Rattle.rules.specs.Guard.{caused, guarded, guardedTick}
-use Rattle.rules.specs.Remedy.{effects}
+use Rattle.rules.specs.Remedy.{effects, remedy}
 use Rattle.rules.specs.Trace.{guardedTickKind, endOf, stepsIn, bytesNumber, runBytes, runBytesAnswers}
 use Rattle.rules.specs.Images.{tableOf, markingOf, imagesNumber, on, putBack, guardNumber}
 use Rattle.rules.specs.History.{Act, executes, passes, thenPass, historyOf}
 use Rattle.rules.specs.Calls.{step, Calls, Caused}
 use Rattle.rules.specs.Calls.{none as engine-none, requested as engine-requested, reported as engine-reported, ticked as engine-ticked}
-use Rattle.rules.specs.Calls.{guardedly as engine-guardedly, ran-bytes as engine-ran, actsIn as engineActs, listed as engineListed}
+use Rattle.rules.specs.Calls.{guardedly as engine-guardedly, ran-bytes as engine-ran, offered as engine-offered, actsIn as engineActs, listed as engineListed}
 use Rattle.rules.specs.Calls.{Answered as EngineAnswered}
 use Rattle.rules.specs.Laws.Check.{verdict-done}
 use Rattle.rules.specs.Laws.InNumbers.{check-in-numbers}
@@ -46,7 +46,7 @@ use Rattle.duty.specs.Laws.Images.{read-judged}
 use Rattle.duty.specs.Laws.ReadBack.{AsRead, effect-as-read, time-as-read, effects-as-read, after-as-read, as-read, put-back}
 use Rattle.duty.specs.Laws.Guarded.{caused-is}
 use Rattle.duty.proofs.Chained.{Request, Report, PlainTick, Check, GuardedTick, Run, count, listed}
-use Rattle.duty.proofs.Chained.{Chained, none, requested, reported, ticked, guardedly, ran, actsIn, Answered}
+use Rattle.duty.proofs.Chained.{Chained, none, requested, reported, ticked, guardedly, ran, offered, actsIn, Answered}
 
 -- a check without a number accepts
 accepts : (t : Table) (m : Marking) → judged t m ≡ 0 → checkNumber (check t m) ≡ 0 → check t m ≡ Accepts
@@ -54,9 +54,9 @@ unfolding check
 accepts t m done h = check-accepts t m done (verdict-done t m (rw done at h))
 
 -- a chain of the engine's calls that comes to some acts
-record Along (t : Table) (m : Marking) (steps : List Step) (end : Marking) (acts : List Act) : Type 0 where
-  calls : Calls t m steps end
-  same : engineActs calls ≡ acts
+pub record Along (t : Table) (m : Marking) (steps : List Step) (end : Marking) (acts : List Act) : Type 0 where
+  pub calls : Calls t m steps end
+  pub same : engineActs calls ≡ acts
 
 -- the images are read: a call's number is its rule's, and what it puts back is read as what the rule answers
 module _ (table marking : List ℕ) (read : imagesNumber table marking ≡ 0) where
@@ -237,7 +237,7 @@ guarded-on table marking end steps acts call p q read rest = go (eqb (call .answ
         (then .0, subst (λ (l : List ℕ). Along (tableOf table) (markingOf table l) steps (markingOf table end) acts) stays (then .1))
 
 -- a chain of C's calls is a chain of the engine's, of the same steps and with the same acts
-follows : {table marking end : List ℕ} {steps : List Step} (calls : Chained table marking steps end) → imagesNumber table marking ≡ 0
+pub follows : {table marking end : List ℕ} {steps : List Step} (calls : Chained table marking steps end) → imagesNumber table marking ≡ 0
     → (imagesNumber table end ≡ 0) × Along (tableOf table) (markingOf table marking) steps (markingOf table end) (actsIn calls)
 unfolding actsIn engineActs
 follows none read = (read, record { calls = engine-none; same = refl })
@@ -296,6 +296,16 @@ follows {table} (ran {marking} {end} {steps} call p q rest) read =
       then .0,
       subst (λ (k : ℕ). Along t m (done k (stepsIn bytes) [] ++ steps) (markingOf table end) (done k (historyOf t m (stepsIn bytes)) [] ++ actsIn rest))
           (sym (n .told)) whole,
+    )
+follows {table} (offered {marking} {end} {steps} call p q rest) read =
+    let then = follows rest read in
+    let preferred = call .handed .1 .1 .0 .now in
+    let fallback = call .handed .1 .1 .1 .0 .now in (
+      then .0,
+      record {
+        calls = engine-offered preferred fallback (remedy (tableOf table) (markingOf table marking) preferred fallback) refl (then .1 .calls);
+        same = then .1 .same;
+      },
     )
 
 -- what a C caller is answered where the images are read and the engine answers as it should

@@ -8,6 +8,8 @@ use Rattle.duty.proofs.duty_judge.Kinds as judge-kinds
 use Rattle.duty.proofs.duty_judge.Reads as judge
 use Rattle.duty.proofs.duty_fresh.Kinds as fresh-kinds
 use Rattle.duty.proofs.duty_fresh.Reads as fresh
+use Rattle.duty.proofs.duty_carry.Kinds as carry-kinds
+use Rattle.duty.proofs.duty_carry.Reads as carry
 use Rattle.duty.proofs.duty_write_table.Kinds as write-table-kinds
 use Rattle.duty.proofs.duty_write_table.Reads as write-table
 use Rattle.duty.proofs.duty_relation.Kinds as relation-kinds
@@ -55,6 +57,10 @@ judge-once κs a one other x y p q = p ∙ sym q
 pub fresh-once : Agree 1 fresh-kinds.ps fresh-kinds.r fresh.Learnt
     (λ κs one other x y. (one ≡ other) × (x .1 .0 .now ≡ y .1 .0 .now))
 fresh-once κs a one other x y p q = let same = p .0 ∙ sym (q .0) in (same, told _ _ same (p .1) (q .1))
+
+pub carry-once : Agree 2 carry-kinds.ps carry-kinds.r carry.Learnt
+    (λ κs one other x y. (one ≡ other) × (x .1 .1 .0 .now ≡ y .1 .1 .0 .now))
+carry-once κs a one other x y p q = (p .0 ∙ sym (q .0), p .1 ∙ sym (q .1))
 
 pub write-table-once : Agree 3 write-table-kinds.ps write-table-kinds.r write-table.Learnt
     (λ κs one other x y. (one ≡ other) × (x .1 .1 .1 .0 .now ≡ y .1 .1 .1 .0 .now))

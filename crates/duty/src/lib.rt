@@ -6,6 +6,7 @@ mod building;
 mod guarding;
 mod images;
 mod offering;
+mod placing;
 mod recording;
 mod tabling;
 mod telling;
@@ -21,6 +22,7 @@ ghost use Rattle.rules.specs.Numbers.{_if_, _else_, done};
 ghost use Rattle.rules.specs.EventSet.{sizeOf, lowestOf};
 ghost use Rattle.rules.specs.Fields.{bit};
 ghost use Rattle.rules.specs.Image.{classByte, recordBytes, markingImage, fresh};
+ghost use Rattle.rules.specs.Carrying.{carryNumber, carryMarking};
 ghost use Rattle.rules.specs.Enabled.{enabledAnswer};
 ghost use Rattle.rules.specs.Ask.{request, report};
 ghost use Rattle.rules.specs.Time.{dueAnswer, plainTick};
@@ -55,6 +57,15 @@ pub extern "C" fn duty_fresh(events: usize, marking: &mut [u8]) -> u8
         return image::write_marking(m, marking);
     }
     made.number
+}
+
+// An image of the time before counts, carried over into the first bytes of the buffer.
+#[no_mangle]
+pub extern "C" fn duty_carry(events: usize, old: &[u8], marking: &mut [u8]) -> u8
+    ensures number { λ r. ⌜ r ≡ carryNumber events (now (old .entry)) (length (now (marking .entry))) ⌝ }
+    ensures marking { λ _. ⌜ now (marking .exit) ≡ carryMarking events (now (old .entry)) (now (marking .entry)) ⌝ }
+{
+    image::carry_marking(events, old, marking)
 }
 
 // A table's image, built from plain numbers: a class byte for each event, five numbers for each relation.
@@ -112,7 +123,7 @@ pub extern "C" fn duty_class(table: &[u8], event: usize, byte: &mut u8) -> u8
     number
 }
 
-// The record of an event: its six fields, in the image's order.
+// The record of an event: its seven fields, in the image's order.
 #[no_mangle]
 pub extern "C" fn duty_record(table: &[u8], marking: &[u8], event: usize, fields: &mut [u32]) -> u8
     ensures number { λ r. ⌜ r ≡ fieldsNumber (now (table .entry)) (now (marking .entry)) event (length (now (fields .entry))) ⌝ }
@@ -121,7 +132,7 @@ pub extern "C" fn duty_record(table: &[u8], marking: &[u8], event: usize, fields
     let read = images::read(table, marking);
     let t = read.table;
     let m = read.marking;
-    let asked = asking::number(t.events, event, fields.len(), 6);
+    let asked = asking::number(t.events, event, fields.len(), 7);
     let number = images::first_of(read.number, asked);
     if number == 0 {
         let r = m.records[event];

@@ -1,4 +1,5 @@
 // The fields of a record into lent places.
+use super::placing;
 use rules::Record;
 ghost use mathlib.Core.Path.{_≡_};
 ghost use mathlib.Core.List.{_++_};
@@ -7,13 +8,17 @@ ghost use lib.ListN.{length, drop};
 ghost use Rattle.rules.specs.Images.{recordFields};
 
 pub fn put_fields(r: Record, fields: &mut [u32])
-    requires { ⌜ 6 ≤ length (now fields) ⌝ }
-    ensures { λ _. ⌜ now (fields .exit) ≡ recordFields r ++ drop 6 (now (fields .entry)) ⌝ }
+    requires { ⌜ 7 ≤ length (now fields) ⌝ }
+    ensures { λ _. ⌜ now (fields .exit) ≡ recordFields r ++ drop 7 (now (fields .entry)) ⌝ }
 {
-    fields[0] = r.happened as u32;
-    fields[1] = r.age;
-    fields[2] = r.included as u32;
-    fields[3] = r.pending as u32;
-    fields[4] = r.bounded as u32;
-    fields[5] = r.deadline;
+    let numbers = [
+        r.happened as u32,
+        r.age,
+        r.included as u32,
+        r.pending as u32,
+        r.bounded as u32,
+        r.deadline,
+        r.count,
+    ];
+    placing::put(&numbers, fields);
 }

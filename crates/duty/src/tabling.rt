@@ -1,4 +1,5 @@
 // A relation of a table, told back in its five numbers.
+use super::placing;
 use rules::Relation;
 ghost use mathlib.Core.Path.{_≡_};
 ghost use mathlib.Core.List.{_++_};
@@ -10,9 +11,12 @@ pub fn put_numbers(k: Relation, numbers: &mut [u32])
     requires { ⌜ 5 ≤ length (now numbers) ⌝ }
     ensures { λ _. ⌜ now (numbers .exit) ≡ numbersFrom k ++ drop 5 (now (numbers .entry)) ⌝ }
 {
-    numbers[0] = k.kind as u32;
-    numbers[1] = k.left as u32;
-    numbers[2] = k.right as u32;
-    numbers[3] = k.bounded as u32;
-    numbers[4] = k.time;
+    let told = [
+        k.kind as u32,
+        k.left as u32,
+        k.right as u32,
+        k.bounded as u32,
+        k.time,
+    ];
+    placing::put(&told, numbers);
 }

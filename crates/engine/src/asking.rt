@@ -19,7 +19,7 @@ pub fn asked(t: Table, m: Marking, event: usize, controllable: bool) -> MarkingA
     let mut row = [0; 10];
     let mut links = [0; 256];
     let mut sets = [0; 4];
-    let mut columns = [0; 128];
+    let mut columns = [0; 192];
     derived::own(t, event, &mut row, &mut links);
     laid::lay(m, &mut sets, &mut columns);
     let head = derived::head_of(t);

@@ -81,7 +81,7 @@ pub fn due(t: Table, m: Marking) -> SetAnswer
     let number = judge::then_marking(image::judge_table(t), t.events, m);
     if number == 0 {
         let mut sets = [0; 4];
-        let mut columns = [0; 128];
+        let mut columns = [0; 192];
         laid::lay(m, &mut sets, &mut columns);
         let set = time::due(0, &sets, &columns, t.events);
         return SetAnswer { number: 0, set };
@@ -118,7 +118,7 @@ pub fn plain_tick(t: Table, m: Marking) -> MarkingAnswer
     let number = judge::then_marking(image::judge_table(t), t.events, m);
     if number == 0 {
         let mut sets = [0; 4];
-        let mut columns = [0; 128];
+        let mut columns = [0; 192];
         laid::lay(m, &mut sets, &mut columns);
         if time::due(0, &sets, &columns, t.events) == 0 {
             let after = laid::give(m, time::tick(0), &sets, &columns);
@@ -175,7 +175,7 @@ pub fn closure(t: Table, m: Marking) -> ClosureAnswer
         let mut rows = [0; 640];
         let mut links = [0; 256];
         let mut sets = [0; 4];
-        let mut columns = [0; 128];
+        let mut columns = [0; 192];
         derived::derived(t, &mut rows, &mut links);
         laid::lay(m, &mut sets, &mut columns);
         let set = reasons::closure(&rows, &sets, t.events);
@@ -203,7 +203,7 @@ pub fn check(t: Table, m: Marking) -> CheckAnswer
         let mut rows = [0; 640];
         let mut links = [0; 256];
         let mut sets = [0; 4];
-        let mut columns = [0; 128];
+        let mut columns = [0; 192];
         derived::derived(t, &mut rows, &mut links);
         laid::lay(m, &mut sets, &mut columns);
         let found = reasons::found(&rows, derived::head_of(t), &sets);
@@ -223,7 +223,7 @@ pub fn guarded_tick(t: Table, m: Marking) -> GuardedAnswer
     let mut rows = [0; 640];
     let mut links = [0; 256];
     let mut sets = [0; 4];
-    let mut columns = [0; 128];
+    let mut columns = [0; 192];
     derived::derived(t, &mut rows, &mut links);
     laid::lay(m, &mut sets, &mut columns);
     let found = reasons::found(&rows, derived::head_of(t), &sets);
@@ -285,7 +285,7 @@ pub fn remedies<'a>(
     let mut rows = [0; 640];
     let mut links = [0; 256];
     let mut sets = [0; 4];
-    let mut columns = [0; 128];
+    let mut columns = [0; 192];
     derived::derived(t, &mut rows, &mut links);
     laid::lay(m, &mut sets, &mut columns);
     let head = derived::head_of(t);

@@ -111,7 +111,7 @@ pub fn stepped(t: Table, words: Words, r: Running, kind: u8, event: u8) -> Runni
     let rows = words.rows;
     let links = words.links;
     let mut sets = [0; 4];
-    let mut columns = [0; 128];
+    let mut columns = [0; 192];
     laid::lay(before, &mut sets, &mut columns);
     let told = step::step(
         &rows,
@@ -144,7 +144,7 @@ pub fn played(t: Table, m: Marking, steps: &[u8], answers: &mut [u8]) -> Marking
     let mut rows = [0; 640];
     let mut links = [0; 256];
     let mut sets = [0; 4];
-    let mut columns = [0; 128];
+    let mut columns = [0; 192];
     derived::derived(t, &mut rows, &mut links);
     laid::lay(m, &mut sets, &mut columns);
     let head = derived::head_of(t);

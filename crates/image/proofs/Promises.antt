@@ -1,6 +1,6 @@
 -- Two results that meet a public call's promise are equal, the lent buffer too; and what the calls promise together: what is read is
--- accepted, what is written is read back, what is read is written again. A promise is what a caller learns of the answer and of the
--- parameters at exit, as the call's own clauses say it. Assumes nothing.
+-- accepted, what is written is read back, what is read is written again, what is carried over is read as the old image says. A promise is
+-- what a caller learns of the answer and of the parameters at exit, as the call's own clauses say it. Assumes nothing.
 use mathlib.Core.Path.{_≡_, sym, ap, ap₂, _∙_}
 use mathlib.Core.List.{List, _++_}
 use Prim.Native.Nat.{ℕ, _*_, _<_, _≤_}
@@ -14,7 +14,8 @@ use Rattle.rules.specs.declared.TableAnswer.{TableAnswer}
 use Rattle.rules.specs.Holds.{recordOf}
 use Rattle.rules.specs.Judge.{tableNumber, markingNumberFor}
 use Rattle.rules.specs.Image.{recordBytes, markingFrom, readMarking, writeNumber, writeMarking}
-use Rattle.image.specs.Theorems.{read-table-accepted, read-marking-accepted, fresh-accepted, written-is-read, read-is-written}
+use Rattle.rules.specs.Carrying.{carried}
+use Rattle.image.specs.Theorems.{read-table-accepted, read-marking-accepted, fresh-accepted, written-is-read, read-is-written, carried-is-read}
 use Rattle.rules.proofs.Marking.fresh.Kinds as fresh-kinds
 use Rattle.rules.proofs.Marking.fresh.Reads as fresh
 use Rattle.rules.proofs.Marking.empty.Kinds as empty-kinds
@@ -29,6 +30,8 @@ use Rattle.image.proofs.read_marking.Kinds as read-marking-kinds
 use Rattle.image.proofs.read_marking.Reads as read-marking
 use Rattle.image.proofs.write_marking.Kinds as write-marking-kinds
 use Rattle.image.proofs.write_marking.Reads as write-marking
+use Rattle.image.proofs.carry_marking.Kinds as carry-marking-kinds
+use Rattle.image.proofs.carry_marking.Reads as carry-marking
 use Rattle.image.proofs.judge_table.Kinds as judge-table-kinds
 use Rattle.image.proofs.judge_table.Reads as judge-table
 use Rattle.image.proofs.judge_marking.Kinds as judge-marking-kinds
@@ -51,6 +54,9 @@ read-marking-once κs a one other x y p q = p ∙ sym q
 
 pub write-marking-once : OneAnswer 1 write-marking-kinds.ps write-marking-kinds.r write-marking.Learnt
 write-marking-once κs a one other x y p q = p .0 ∙ sym (q .0)
+
+pub carry-marking-once : OneAnswer 2 carry-marking-kinds.ps carry-marking-kinds.r carry-marking.Learnt
+carry-marking-once κs a one other x y p q = p .0 ∙ sym (q .0)
 
 pub judge-table-once : OneAnswer 0 judge-table-kinds.ps judge-table-kinds.r judge-table.Learnt
 judge-table-once κs a one other x y p q = p ∙ sym q
@@ -78,6 +84,11 @@ pub write-marking-bytes-once : (κs : Lfts 1) (a : Dens κs write-marking-kinds.
     → write-marking.Learnt κs a one x → write-marking.Learnt κs a other y → x .1 .0 .now ≡ y .1 .0 .now
 write-marking-bytes-once κs a one other x y p q = p .1 ∙ sym (q .1)
 
+pub carry-marking-bytes-once : (κs : Lfts 2) (a : Dens κs carry-marking-kinds.ps) (one other : ℕ)
+    (x y : AtExit (endedOf 2 carry-marking-kinds.ps carry-marking-kinds.r) κs)
+    → carry-marking.Learnt κs a one x → carry-marking.Learnt κs a other y → x .1 .1 .0 .now ≡ y .1 .1 .0 .now
+carry-marking-bytes-once κs a one other x y p q = p .1 ∙ sym (q .1)
+
 -- A run of a call that keeps its promise: what it is given, what it answers, and the parameters that it leaves.
 pub record Run (n : ℕ) (ps : List (PK n)) (r : RK n) (promise : Out n ps r) : Type 0 where
   pub lifetimes : Lfts n
@@ -94,6 +105,9 @@ ReadsMarking = Run 1 read-marking-kinds.ps read-marking-kinds.r read-marking.Lea
 
 abbrev pub WritesMarking : Type 0
 WritesMarking = Run 1 write-marking-kinds.ps write-marking-kinds.r write-marking.Learnt
+
+abbrev pub CarriesMarking : Type 0
+CarriesMarking = Run 2 carry-marking-kinds.ps carry-marking-kinds.r carry-marking.Learnt
 
 abbrev pub JudgesTable : Type 0
 JudgesTable = Run 0 judge-table-kinds.ps judge-table-kinds.r judge-table.Learnt
@@ -138,6 +152,16 @@ written-then-read write read done events bytes =
     read .kept
     ∙ ap₂ readMarking events (bytes ∙ ap (take (recordBytes * m .events)) (write .kept .1))
     ∙ written-is-read m buffer (sym (write .kept .0) ∙ done)
+
+-- Reading what was carried over gives the marking of the old image.
+pub carried-then-read : (carry : CarriesMarking) (read : ReadsMarking) → carry .answer ≡ 0
+    → read .given .0 ≡ carry .given .0 → read .given .1 .0 .now ≡ take (recordBytes * carry .given .0) (carry .left .1 .1 .0 .now)
+    → read .answer ≡ record { number = 0; marking = carried (carry .given .0) (carry .given .1 .0 .now) }
+carried-then-read carry read done events bytes =
+    let n = carry .given .0 in
+    read .kept
+    ∙ ap₂ readMarking events (bytes ∙ ap (take (recordBytes * n)) (carry .kept .1))
+    ∙ carried-is-read n (carry .given .1 .0 .now) (carry .given .1 .1 .0 .now) (sym (carry .kept .0) ∙ done)
 
 -- Writing what was read gives the same bytes, and later bytes stay. That each place of a slice is a byte is a fact of its type.
 pub read-then-written : (read : ReadsMarking) (write : WritesMarking) → read .answer .number ≡ 0

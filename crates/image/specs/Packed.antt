@@ -1,4 +1,5 @@
--- A relation and a record as parts of the one number that their bytes hold, and as that number; a header and a class as that number.
+-- A relation as parts of the one number that its bytes hold, and as that number; a record likewise, but for its count, which stands behind that
+-- number; a header and a class as that number.
 use mathlib.Core.Bool.{Bool}
 use Prim.Native.Nat.{ℕ, _/_, _%_, _^_}
 use lib.Dec.{eqb}
@@ -32,17 +33,22 @@ classWord controllable causable e = bit (has controllable e) ▸ 1 ∶ bit (has 
 abbrev pub headerWord : ℕ → ℕ → ℕ
 headerWord events count = events ▸ 9 ∶ count ▸ 16 ∶ 0
 
--- happened 1, age 30, included 1, pending 1, bounded 1, deadline 30
-abbrev pub recordOfWord : ℕ → Record
-recordOfWord w = record {
+-- before the count: happened 1, age 30, included 1, pending 1, bounded 1, deadline 30
+abbrev pub recordOfWord : ℕ → ℕ → Record
+recordOfWord w count = record {
   age = w / 2 ^ 33 % 2 ^ 30;
   deadline = w % 2 ^ 30;
   happened = eqb (w / 2 ^ 63 % 2) 1;
   included = eqb (w / 2 ^ 32 % 2) 1;
   pending = eqb (w / 2 ^ 31 % 2) 1;
   bounded = eqb (w / 2 ^ 30 % 2) 1;
+  count = count;
 }
 
 abbrev pub wordOfRecord : Record → ℕ
 wordOfRecord r =
     bit (r .happened) ▸ 30 ∶ r .age ▸ 1 ∶ bit (r .included) ▸ 1 ∶ bit (r .pending) ▸ 1 ∶ bit (r .bounded) ▸ 30 ∶ r .deadline
+
+-- and with the count, 32, behind it
+abbrev pub wholeOfRecord : Record → ℕ
+wholeOfRecord r = wordOfRecord r ▸ 32 ∶ r .count

@@ -1,30 +1,39 @@
--- Nothing enters that the judge does not accept, and nothing leaves that cannot be read back; what is built from plain numbers is told back in them.
--- Assumes nothing.
+-- Nothing enters that the judge does not accept, and nothing leaves that cannot be read back; what is carried over says what the old image said;
+-- what is built from plain numbers is told back in them. Assumes nothing.
 use mathlib.Core.Path.{_≡_, refl, sym, ap, ap₂, _∙_}
-use mathlib.Core.Bool.{Bool, not}
-use mathlib.Core.List.{List, _++_}
+use mathlib.Core.Bool.{Bool, not, cond}
+use mathlib.Core.List.{List, [], _∷_, _++_}
 use Prim.Native.Nat.{ℕ, _+_, _-_, _*_, _<_, _≤_}
+use native.Mathlib.Nat.{zero-add}
+use native.Mathlib.Omega.{arith}
 use borrow.Author.Tests.{ne-eqb, not-false}
+use lib.Dec.{eqb, ltb}
 use lib.ListN.{length, getD, take, drop, replicate}
 use lib.Seq.{take-at}
 use Rattle.rules.specs.declared.Table.{Table}
 use Rattle.rules.specs.declared.Marking.{Marking}
 use Rattle.rules.specs.declared.Record.{Record}
+use Rattle.rules.specs.Counting.{some}
+use Rattle.rules.specs.Numbers.{_if_, _else_}
 use Rattle.rules.specs.Holds.{mostEvents, recordOf, emptyRecord}
-use Rattle.rules.specs.Judge.{eventsFit, recordFits, markingNumber, markingNumberFor, tableNumber}
-use Rattle.rules.specs.Fields.{_▸_, _∶_, bit}
+use Rattle.rules.specs.Judge.{eventsFit, stateFits, countFits, recordFits, markingNumber, markingNumberFor, tableNumber}
+use Rattle.rules.specs.Fields.{field, flag, _▸_, _∶_, bit}
 use Rattle.rules.specs.Image.{eventsIn, classBit}
 use Rattle.rules.specs.Image.{tableLength, tableIn, readTable, classByte, tableImage, writeTableNumber, writeTable, ImageHolds, unusedEmpty}
 use Rattle.rules.specs.Image.{markingFrom, recordBytes, markingImage, recordAt, recordBit, readMarking, writeNumber, writeMarking, fresh, freshRecord}
+use Rattle.rules.specs.Image.{stateAt, eventImage}
+use Rattle.rules.specs.Carrying.{oldRecordBytes, oldRecordBit, carriedAt, carried, carryNumber, carryMarking}
 use Rattle.rules.specs.Images.{tableOf}
 use Rattle.rules.specs.Building.{relationsTold, tableFrom, buildNumber, build, builtImage, relationToldNumber, relationTold, classToldNumber, Tells}
 use Rattle.rules.specs.Laws.Counting.{places-same}
 use Rattle.rules.specs.Laws.EventSet.{set-has}
 use Rattle.rules.specs.Laws.Fields.{byte-field}
-use Rattle.rules.specs.Laws.Numbers.{if-done, both-done}
+use Rattle.rules.specs.Laws.Numbers.{if-done, both-done, by-number}
+use Rattle.rules.specs.Laws.Pieces.{piece-out}
 use Rattle.rules.specs.Laws.Written.{table-image-length, table-number-refused, table-number-done, table-bytes-kept, table-bytes-written}
-use Rattle.rules.specs.Laws.Written.{image-length, number-done, bytes-kept, bytes-written, later-kept}
+use Rattle.rules.specs.Laws.Written.{records-sized, image-length, number-done, bytes-kept, bytes-written, later-kept}
 use Rattle.image.specs.Laws.Round.{from-done, from-done-for, readable, readable-number, reads-as, images-back, record-again, image-readable}
+use Rattle.image.specs.Laws.Carried.{carry-bytes, carry-done, carried-record, carry-numbers, carried-bytes}
 use Rattle.image.specs.Parts.{isControllableIn, isCausableIn}
 use Rattle.image.specs.Laws.TableWords.{class-again}
 use Rattle.image.specs.Laws.TableRound.{image-judged, image-read, table-readable, table-in-done, table-in-unused, table-image-back}
@@ -46,7 +55,7 @@ read-marking-exact events image h = readable events image h .exact
 
 -- A fresh marking is accepted by the judge.
 pub fresh-accepted : (events : ℕ) → fresh events .number ≡ 0 → markingNumberFor events (fresh events .marking) ≡ 0
-unfolding fresh recordFits
+unfolding fresh recordFits stateFits countFits
 fresh-accepted events h =
     let fit = not-false (eventsFit events) (if-done 2 (not (eventsFit events)) h) in
     rw fit (from-done-for events (λ e. freshRecord) fit (λ e l. refl))
@@ -110,6 +119,81 @@ refused-leaves m buffer h = bytes-kept m buffer h
 pub later-stay : (m : Marking) (buffer : List ℕ) → drop (recordBytes * m .events) (writeMarking m buffer) ≡ drop (recordBytes * m .events) buffer
 unfolding writeMarking
 later-stay m buffer = later-kept (writeNumber m (length buffer)) (markingImage m) buffer (image-length m)
+
+-- Carrying over. What is carried over is read as the marking of the old image.
+pub carried-is-read : (events : ℕ) (old buffer : List ℕ) → carryNumber events old (length buffer) ≡ 0
+    → readMarking events (take (recordBytes * events) (carryMarking events old buffer)) ≡ record { number = 0; marking = carried events old }
+unfolding carried
+carried-is-read events old buffer h =
+    let m = carried events old in
+    let d = carry-done events old (length buffer) h in
+    ap (λ (l : List ℕ). readMarking events (take (recordBytes * events) l)) (carry-bytes events old (d .0) buffer)
+    ∙ written-is-read m buffer (d .1)
+    ∙ ap (λ (l : List Record). record { number = 0; marking = record { records = l ++ replicate (mostEvents - events) emptyRecord; events = events } })
+    (places-same emptyRecord (recordOf m) (λ e. carriedAt old (oldRecordBit e)) events (carried-record events old))
+
+-- In it each record says what the old bits said, bit p being its event's first, and counts once if its event has happened.
+pub record AsOld (old : List ℕ) (p : ℕ) (r : Record) : Type 0 where
+  pub happened-as-old : r .happened ≡ flag old p
+  pub age-as-old : r .age ≡ field old (p + 1) 30
+  pub included-as-old : r .included ≡ flag old (p + 31)
+  pub pending-as-old : r .pending ≡ flag old (p + 32)
+  pub bounded-as-old : r .bounded ≡ flag old (p + 33)
+  pub deadline-as-old : r .deadline ≡ field old (p + 34) 30
+  pub counts-once : r .count ≡ cond (flag old p) 1 0
+
+pub carried-as-old : (events : ℕ) (old buffer : List ℕ) → carryNumber events old (length buffer) ≡ 0 → (e : ℕ) → e < events
+    → AsOld old (64 * e) (recordOf (readMarking events (take (recordBytes * events) (carryMarking events old buffer)) .marking) e)
+unfolding carriedAt
+carried-as-old events old buffer h e l =
+    let place : oldRecordBit e ≡ 64 * e = omega arith in
+    rw (carried-is-read events old buffer h, carried-record events old e l, place)
+    (record {
+      happened-as-old = refl;
+      age-as-old = refl;
+      included-as-old = refl;
+      pending-as-old = refl;
+      bounded-as-old = refl;
+      deadline-as-old = refl;
+      counts-once = refl;
+    })
+
+-- Its bytes are the old ones, and then the 4 bytes of 1 if its event has happened, else of 0.
+pub carried-keeps-bytes : (events : ℕ) (old buffer : List ℕ) → ((i : ℕ) → getD old i 0 < 256) → carryNumber events old (length buffer) ≡ 0
+    → (e : ℕ) → e < events
+    → take recordBytes (drop (recordBytes * e) (carryMarking events old buffer))
+    ≡ take oldRecordBytes (drop (oldRecordBytes * e) old) ++ (0 ∷ 0 ∷ 0 ∷ cond (flag old (64 * e)) 1 0 ∷ [])
+unfolding writeNumber carried
+carried-keeps-bytes events old buffer bytes h e l =
+    let m = carried events old in
+    let d = carry-done events old (length buffer) h in
+    let place : oldRecordBit e ≡ 64 * e = omega arith in
+    ap (λ (s : List ℕ). take recordBytes (drop (recordBytes * e) s)) (carry-bytes events old (d .0) buffer ∙ bytes-written m buffer (d .1))
+    ∙ piece-out (records-sized m) (drop (recordBytes * events) buffer) 0 events e l
+    ∙ ap (eventImage m) (zero-add e)
+    ∙ carried-bytes events old bytes (d .0) (both-done (markingNumber m) _ (d .1) .0) e l
+    ∙ rw place
+
+-- A refusal leaves every byte; a marking that is carried over leaves every later byte.
+pub carry-refused-leaves : (events : ℕ) (old buffer : List ℕ) → (carryNumber events old (length buffer) ≡ 0 → ⊥)
+    → carryMarking events old buffer ≡ buffer
+unfolding carryMarking
+carry-refused-leaves events old buffer h = rw (ne-eqb _ 0 h)
+
+pub carry-later-stay : (events : ℕ) (old buffer : List ℕ)
+    → drop (recordBytes * events) (carryMarking events old buffer) ≡ drop (recordBytes * events) buffer
+unfolding carryMarking carried
+carry-later-stay events old buffer =
+    by-number (carryNumber events old (length buffer)) (λ done. rw done (later-stay (carried events old) buffer)) (λ refused. rw refused)
+
+-- Carrying over never disagrees with the old rules: it refuses with 7 exactly where some old record breaks them, so none is refused for its count.
+-- The 0 stands in the place of a count, at which the old rules do not look.
+pub carry-never-disagrees : (events : ℕ) (old : List ℕ) (room : ℕ) → carryNumber events old room
+    ≡ (3 if not (eventsFit events)
+    else 1 if not (eqb (length old) (oldRecordBytes * events))
+    else 7 if some events (λ e. not (stateFits (stateAt old (oldRecordBit e) 0)))
+    else 14 if ltb room (recordBytes * events))
+carry-never-disagrees events old room = carry-numbers events old room
 
 -- Reading what was written gives the table back, with its unused places empty.
 pub table-written-is-read : (t : Table) (buffer : List ℕ) → writeTableNumber t (length buffer) ≡ 0

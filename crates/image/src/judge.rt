@@ -7,8 +7,8 @@ ghost use mathlib.Core.Path.{_≡_};
 ghost use mathlib.Core.Bool.{cond};
 ghost use Prim.Native.Nat.{_≤_};
 ghost use Rattle.rules.specs.Numbers.{firstOf};
-ghost use Rattle.rules.specs.Holds.{limit, mostEvents, mostRelations, relationOf, recordOf};
-ghost use Rattle.rules.specs.Judge.{eventsFit, timeFits, relationNumber, recordFits, recordNumber, markingNumber};
+ghost use Rattle.rules.specs.Holds.{limit, countLimit, mostEvents, mostRelations, relationOf, recordOf};
+ghost use Rattle.rules.specs.Judge.{eventsFit, timeFits, relationNumber, stateFits, countFits, recordFits, recordNumber, markingNumber};
 
 // 1 event or more, and no more than the most.
 pub fn events_fit(n: usize) -> bool
@@ -97,8 +97,8 @@ fn limit_if(there: bool) -> u32
 }
 
 // Age, bounded and deadline keep the rules of a record.
-fn record_fits(r: Record) -> bool
-    ensures { λ b. ⌜ b ≡ recordFits r ⌝ }
+fn state_fits(r: Record) -> bool
+    ensures { λ b. ⌜ b ≡ stateFits r ⌝ }
 {
     let oldest = limit_if(r.happened);
     if oldest < r.age {
@@ -112,6 +112,26 @@ fn record_fits(r: Record) -> bool
         return false;
     }
     r.deadline <= latest
+}
+
+// The count agrees with whether the event has happened. No number of its type is above its limit.
+fn count_fits(r: Record) -> bool
+    ensures fits { λ b. ⌜ b ≡ countFits r ⌝ }
+    ensures constant { λ b. do ⌜ (← ⟦Marking::COUNT_LIMIT⟧ .entry) ≡ countLimit ⌝ }
+{
+    if r.happened {
+        return 1 <= r.count;
+    }
+    r.count == 0
+}
+
+fn record_fits(r: Record) -> bool
+    ensures { λ b. ⌜ b ≡ recordFits r ⌝ }
+{
+    if state_fits(r) {
+        return count_fits(r);
+    }
+    false
 }
 
 // A record: 7.

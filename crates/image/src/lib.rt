@@ -12,6 +12,7 @@ ghost use mathlib.Core.Path.{_≡_};
 ghost use lib.ListN.{length};
 ghost use Rattle.rules.specs.Judge.{tableNumber, markingNumberFor};
 ghost use Rattle.rules.specs.Image.{readTable, writeTableNumber, writeTable, readMarking, writeNumber, writeMarking};
+ghost use Rattle.rules.specs.Carrying.{carryNumber, carryMarking};
 
 // The table of an image, or the number of the first rule that it breaks.
 pub fn read_table(image: &[u8]) -> TableAnswer
@@ -85,6 +86,20 @@ pub fn write_marking(m: Marking, buffer: &mut [u8]) -> u8
     }
     marking::put_records(m, buffer);
     0
+}
+
+// An image of the time before counts, carried over into the first bytes of a lent buffer; a refusal leaves every byte.
+pub fn carry_marking(events: usize, old: &[u8], buffer: &mut [u8]) -> u8
+    ensures number { λ r. ⌜ r ≡ carryNumber events (now (old .entry)) (length (now (buffer .entry))) ⌝ }
+    ensures bytes { λ r. ⌜ now (buffer .exit) ≡ carryMarking events (now (old .entry)) (now (buffer .entry)) ⌝ }
+{
+    if !judge::events_fit(events) {
+        return 3;
+    }
+    if old.len() != marking::STATE_BYTES * events {
+        return 1;
+    }
+    write_marking(marking::carried_in(events, old), buffer)
 }
 
 // The number of a decoded table, 0 where the reader would accept its image.

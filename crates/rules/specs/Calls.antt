@@ -13,6 +13,7 @@ use Rattle.rules.specs.declared.MarkingAnswer.{MarkingAnswer}
 use Rattle.rules.specs.declared.CheckAnswer.{CheckAnswer}
 use Rattle.rules.specs.declared.CheckAnswer.the-variants.{Accepts}
 use Rattle.rules.specs.declared.GuardedAnswer.{GuardedAnswer}
+use Rattle.rules.specs.declared.RemedyAnswer.{RemedyAnswer}
 use Rattle.rules.specs.Numbers.{done}
 use Rattle.rules.specs.EventSet.{has}
 use Rattle.rules.specs.Holds.{mostEvents, isCausable}
@@ -22,7 +23,7 @@ use Rattle.rules.specs.Ask.{request, report}
 use Rattle.rules.specs.Closure.{closureAnswer}
 use Rattle.rules.specs.Check.{check}
 use Rattle.rules.specs.Guard.{guardedTick}
-use Rattle.rules.specs.Remedy.{effects}
+use Rattle.rules.specs.Remedy.{effects, remedy}
 use Rattle.rules.specs.Trace.{requestKind, reportKind, plainTickKind, guardedTickKind, stepsIn, run, runBytes}
 use Rattle.rules.specs.History.{Act, executes, passes, after, passesIn, thenPass, historyOf}
 use Rattle.rules.specs.Deadline.{Duty, Settles, Met}
@@ -30,7 +31,7 @@ use Rattle.rules.specs.Deadline.{Duty, Settles, Met}
 abbrev pub step : ℕ → ℕ → Step
 step kind event = record { kind = kind; event = event }
 
--- a chain of calls from one marking to another, and its steps; a trace that the runner refuses has none
+-- a chain of calls from one marking to another, and its steps; a trace that the runner refuses has none, and so have offered lists
 pub data Calls (t : Table) : Marking → List Step → Marking → Type 0 where
   none : {m : Marking} → Calls t m [] m
   requested : {m end : Marking} {steps : List Step} (e : ℕ) (answer : MarkingAnswer) → answer ≡ request t m e
@@ -45,6 +46,9 @@ pub data Calls (t : Table) : Marking → List Step → Marking → Type 0 where
       → Calls t (answer .marking) steps end → Calls t m (done (answer .number) played [] ++ steps) end
   ran-bytes : {m end : Marking} {steps : List Step} (bytes : List ℕ) (room : ℕ) (answer : MarkingAnswer) → answer ≡ runBytes t m bytes room
       → Calls t (answer .marking) steps end → Calls t m (done (answer .number) (stepsIn bytes) [] ++ steps) end
+  -- lists are offered and tried; what comes next is handed the same marking
+  offered : {m end : Marking} {steps : List Step} (preferred fallback : List ℕ) (answer : RemedyAnswer) → answer ≡ remedy t m preferred fallback
+      → Calls t m steps end → Calls t m steps end
 
 -- the events that the answer of a guarded tick lists: the first `count` of its list
 abbrev pub listed : GuardedAnswer → List ℕ
@@ -59,6 +63,7 @@ actsIn (ticked answer is rest) = done (answer .number) (passes ∷ []) [] ++ act
 actsIn (guardedly answer is rest) = done (answer .number) (thenPass (listed answer)) [] ++ actsIn rest
 actsIn {t} {m} (ran played room answer is rest) = done (answer .number) (historyOf t m played) [] ++ actsIn rest
 actsIn {t} {m} (ran-bytes bytes room answer is rest) = done (answer .number) (historyOf t m (stepsIn bytes)) [] ++ actsIn rest
+actsIn (offered preferred fallback answer is rest) = actsIn rest
 
 -- What is said of the events that a guarded tick lists, in the words of the calls' answers.
 pub record Caused (t : Table) (m : Marking) (events : List ℕ) : Type 0 where

@@ -29,13 +29,14 @@ use Rattle.rules.specs.declared.RemedyAnswer.{RemedyAnswer}
 use Rattle.rules.specs.Counting.{every, some, lowest, howMany, repeated, placesFrom, belowFrom}
 use Rattle.rules.specs.Numbers.{firstOf}
 use Rattle.rules.specs.EventSet.{has, setOf, sizeOf, lowestOf}
-use Rattle.rules.specs.Holds.{emptyMarking, recordOf}
+use Rattle.rules.specs.Holds.{countLimit, emptyMarking, recordOf}
 use Rattle.rules.specs.Fields.{field, bytesOf}
 use Rattle.rules.specs.Pieces.{pieces}
-use Rattle.rules.specs.Judge.{timeFits, relationNumber, tableNumber, recordFits, markingNumber, markingNumberFor, judged}
+use Rattle.rules.specs.Judge.{timeFits, relationNumber, tableNumber, stateFits, countFits, recordFits, markingNumber, markingNumberFor, judged}
 use Rattle.rules.specs.Image.{relationAt, relationImageNumber, tableImageNumber, tableIn, readTable, recordAt, markingImageNumber, readMarking}
 use Rattle.rules.specs.Image.{headerImage, classByte, classImage, relationImage, writeTableNumber, writeTable, recordImage, writeNumber, writeMarking}
 use Rattle.rules.specs.Image.{fresh}
+use Rattle.rules.specs.Carrying.{carriedAt, carried, carryNumber, carryMarking}
 use Rattle.rules.specs.Enabled.{stops, blocks, isEnabled, enabledAnswer}
 use Rattle.rules.specs.Effect.{withDeadline, excludes, includes, given, smallest, executed, withInclusion, effectAt, effect}
 use Rattle.rules.specs.Time.{isDue, anyDue, dueSet, later, time, plainTickNumber, plainTick, dueAnswer}
@@ -94,6 +95,8 @@ pub data Question : Type 0 where
   buildBuffer : ℕ → List ℕ → List ℕ → List ℕ → Question
   relationAsked : List ℕ → ℕ → List ℕ → Question
   classAsked : List ℕ → ℕ → Question
+  carryOf : ℕ → List ℕ → ℕ → Question
+  carryBuffer : ℕ → List ℕ → List ℕ → Question
 
 pub data Answer : Type 0 where
   verdicts : CheckAnswer → Answer
@@ -163,6 +166,8 @@ answer t m (recordTold table marking e places) = bytes (fieldsTold table marking
 answer t m (buildOf n classes numbers room) = number (buildNumber n classes numbers room)
 answer t m (buildBuffer n classes numbers buffer) = bytes (build n classes numbers buffer)
 answer t m (relationAsked table k places) = bytes (relationTold table k places)
+answer t m (carryOf n old room) = number (carryNumber n old room)
+answer t m (carryBuffer n old buffer) = bytes (carryMarking n old buffer)
 answer t m (classAsked table e) = bytes (classToldNumber table e ∷ classByte (tableOf table) e ∷ [])
 
 abbrev asks : Table → Marking → Question → Answer → Case
@@ -225,7 +230,7 @@ worked =
     ∷ asks shop.waits5 (shop.marking (shop.idle ∷ shop.happened 3 ∷ [])) (margins 0) (by (By (negsuc 1)))
     ∷ asks shop.waits5 (shop.marking (shop.idle ∷ shop.happened 5 ∷ [])) (margins 0) (by (By (pos 0)))
     ∷ asks shop.waits5 (shop.marking (shop.idle ∷ shop.happened 9 ∷ [])) (margins 0) (by (By (pos 4)))
-    -- the hex table and marking: a guarded tick causes 0; event 0 then reads 80 00 00 03 C0 00 00 00
+    -- the hex table and marking: a guarded tick causes 0; event 0 then reads 80 00 00 03 C0 00 00 00 00 00 00 01
     ∷ asks (readTable shop.hexTable .table) (readMarking 2 shop.hexMarking .marking) (causedAlong (shop.guarded ∷ [])) (events (0 ∷ []))
     ∷ asks (readTable shop.hexTable .table) (endOf (readTable shop.hexTable .table) (readMarking 2 shop.hexMarking .marking) (shop.guarded ∷ []))
     (stateBytes 0) (bytes shop.hexRecord)
@@ -241,7 +246,7 @@ mistakes =
     (is (shop.pendingWithin false 1))
     -- Applying effects before clearing e, which loses a self-response
     ∷ asks selfResponse (endOf selfResponse (shop.marking (shop.idle ∷ [])) (shop.request 0 ∷ [])) (state 0)
-    (is (record { age = 0; deadline = 3; happened = true; included = true; pending = true; bounded = true }))
+    (is (record { age = 0; deadline = 3; happened = true; included = true; pending = true; bounded = true; count = 1 }))
     -- Keeping the smaller of old and new deadline
     ∷ after (shop.leak ∷ shop.guarded ∷ shop.guarded ∷ shop.leak ∷ []) (state 1) (is (shop.pendingWithin true 3))
     -- Executing a needed event that an earlier one has excluded
@@ -265,7 +270,7 @@ mistakes =
 
     bothDueOneHappened : Marking
     bothDueOneHappened = shop.marking
-        (shop.pendingWithin true 0 ∷ record { age = 5; deadline = 0; happened = true; included = true; pending = true; bounded = true } ∷ [])
+        (shop.pendingWithin true 0 ∷ record { age = 5; deadline = 0; happened = true; included = true; pending = true; bounded = true; count = 1 } ∷ [])
 
     excludesItsWait : Table
     excludesItsWait = shop.table 2 3 3 (shop.condition 0 1 0 ∷ shop.excludes 0 1 ∷ [])
@@ -304,6 +309,22 @@ turning =
     -- judge_marking: 1 before 7; a deadline without a bound. Not 7; not 0
     ∷ asks shop.P (shop.marking (unbound ∷ [])) (markingJudged 2) (number 1)
     ∷ asks shop.P (shop.marking (unbound ∷ [])) (markingJudged 1) (number 7)
+    -- happened with count 0, not happened with count 1; at the hold it fits. Not 0; not 7
+    ∷ asks shop.P (shop.marking (shop.happenedTimes 0 0 ∷ [])) (markingJudged 1) (number 7)
+    ∷ asks shop.P (shop.marking (countedEarly ∷ [])) (markingJudged 1) (number 7)
+    ∷ asks shop.P (shop.marking (shop.happenedTimes 0 countLimit ∷ [])) (markingJudged 1) (number 0)
+    -- a count grows at each execution and not by time, and at the hold it stays. Not 1; not 3; not 0
+    ∷ asks alone (endOf alone (shop.marking (shop.idle ∷ [])) (shop.request 0 ∷ shop.plain ∷ shop.request 0 ∷ shop.plain ∷ [])) (state 0)
+    (is (shop.happenedTimes 1 2))
+    ∷ asks alone (endOf alone (shop.marking (shop.happenedTimes 5 countLimit ∷ [])) (shop.request 0 ∷ [])) (state 0) (is (shop.happenedTimes 0 countLimit))
+    -- carry_marking: the old fields, then count 1 and count 0, and a later byte stays. Not a count of 1 for both; not a 0 behind
+    ∷ after [] (carryBuffer 2 shop.hexOld (replicate 25 9)) (bytes (shop.hexRecord ++ replicate 12 0 ++ (9 ∷ [])))
+    -- 3 before 1, 1 before 7, 7 before 14, and a refusal writes nothing. Not the later one; not a first record
+    ∷ after [] (carryOf 65 [] 0) (number 3)
+    ∷ after [] (carryOf 1 shop.hexMarking 0) (number 1)
+    ∷ after [] (carryOf 1 (replicate 7 0 ++ (1 ∷ [])) 0) (number 7)
+    ∷ after [] (carryOf 2 shop.hexOld 23) (number 14)
+    ∷ after [] (carryBuffer 2 shop.hexOld (replicate 23 9)) (bytes (replicate 23 9))
     -- size, lowest: the topmost event counts; 64 for none. Not 1; not 0; not the highest, 3
     ∷ after [] (sizeAsked (2 ^ 63 + 1)) (number 2)
     ∷ after [] (sizeAsked 0) (number 0)
@@ -345,8 +366,9 @@ turning =
     ∷ after (shop.leak ∷ []) (holdUpTold 1) (toldHold (record { number = 0; kind = 2; relation = 1 }))
     ∷ asks shop.P-timed shop.start checkTold (toldVerdict (record { number = 12; reason = 3; place = 1 }))
     -- a record's fields in the image's order, and a later place stays; 8 before 14, and nothing is written. Not age first; not a first field
-    ∷ after [] (recordTold shop.hexTable shop.hexMarking 0 (replicate 7 9)) (bytes (0 ∷ 0 ∷ 1 ∷ 1 ∷ 1 ∷ 0 ∷ 9 ∷ []))
-    ∷ after [] (recordTold shop.hexTable (shop.hexRecord ++ replicate 8 0) 0 (replicate 6 9)) (bytes (1 ∷ 1 ∷ 1 ∷ 1 ∷ 1 ∷ 0 ∷ []))
+    ∷ after [] (recordTold shop.hexTable shop.hexMarking 0 (replicate 8 9)) (bytes (0 ∷ 0 ∷ 1 ∷ 1 ∷ 1 ∷ 0 ∷ 0 ∷ 9 ∷ []))
+    ∷ after [] (recordTold shop.hexTable (shop.hexRecord ++ replicate 12 0) 0 (replicate 7 9)) (bytes (1 ∷ 1 ∷ 1 ∷ 1 ∷ 1 ∷ 0 ∷ 1 ∷ []))
+    ∷ after [] (recordTold shop.hexTable shop.hexMarking 0 (replicate 6 9)) (bytes (replicate 6 9))
     ∷ after [] (recordTold shop.hexTable shop.hexMarking 1 (9 ∷ [])) (bytes (9 ∷ []))
     -- a table built from plain numbers: P's bytes, and a later byte stays
     ∷ after [] (buildBuffer 5 shop.pClasses shop.pNumbers (replicate 46 9)) (bytes (shop.pImage ++ (9 ∷ [])))
@@ -371,9 +393,9 @@ turning =
     ∷ after [] (stationNumber [] 0 (longestOutput - 1)) (number 14)
     ∷ after [] (stationNumber [] 1 longestOutput) (number 14)
     ∷ after [] (stationBuffer [] 0 (9 ∷ 9 ∷ [])) (bytes (9 ∷ 9 ∷ []))
-    -- a grant: the hex case, one guarded tick, 17 bytes; a later byte stays
+    -- a grant: the hex case, one guarded tick, 25 bytes; a later byte stays
     ∷ after [] (stationNumber hexInput 0 longestOutput) (number 0)
-    ∷ after [] (stationBuffer hexInput 0 (replicate longestOutput 9)) (bytes ((0 ∷ shop.hexRecord) ++ replicate 8 0 ++ replicate (longestOutput - 17) 9))
+    ∷ after [] (stationBuffer hexInput 0 (replicate longestOutput 9)) (bytes ((0 ∷ shop.hexRecord) ++ replicate 12 0 ++ replicate (longestOutput - 25) 9))
     ∷ []
   where
     refusal : ℕ → Marking → MarkingAnswer
@@ -383,10 +405,16 @@ turning =
     hexInput = shop.hexTable ++ shop.hexMarking ++ (3 ∷ 0 ∷ [])
 
     unbound : Record
-    unbound = record { age = 0; deadline = 4; happened = false; included = true; pending = true; bounded = false }
+    unbound = record { age = 0; deadline = 4; happened = false; included = true; pending = true; bounded = false; count = 0 }
 
     unbounded : Record
-    unbounded = record { age = 0; deadline = 0; happened = false; included = true; pending = true; bounded = false }
+    unbounded = record { age = 0; deadline = 0; happened = false; included = true; pending = true; bounded = false; count = 0 }
+
+    countedEarly : Record
+    countedEarly = record { age = 0; deadline = 0; happened = false; included = true; pending = false; bounded = false; count = 1 }
+
+    alone : Table
+    alone = shop.table 1 1 1 []
 
     intoCycle : Table
     intoCycle = shop.table 3 7 7 (shop.condition 0 1 0 ∷ shop.condition 1 2 0 ∷ shop.condition 2 1 0 ∷ [])
@@ -396,5 +424,5 @@ cases = worked ++ mistakes ++ turning
 
 -- every case is answered as told
 pub told-right : map (λ c. answer (c .table) (c .marking) (c .asked)) cases ≡ map (λ c. c .told) cases
-unfolding cases worked mistakes turning answer causedIn every some lowest howMany repeated placesFrom belowFrom firstOf has setOf sizeOf lowestOf field bytesOf timeFits relationNumber tableNumber recordFits markingNumber markingNumberFor judged relationAt relationImageNumber tableImageNumber tableIn readTable recordAt markingImageNumber readMarking headerImage classImage relationImage writeTableNumber writeTable recordImage pieces stops blocks isEnabled withDeadline excludes includes given smallest executed withInclusion effectAt effect isDue anyDue dueSet later time plainTickNumber plainTick requestNumber reportNumber request marginOf margin holdUpOf holdUp busy follows widened widenedFully closure closureAnswer unreportable uncausable waiting awaited onCycle reopening reviving verdict check holdsBack needed ready orderOf taken takenAll executedOf caused guarded guardedTick inTurn effects discharges shortest remedyNumber remedy stepNumber stepDone stepped endOf answersOf traceNumber stepsIn station writeNumber writeMarking fresh enabledAnswer dueAnswer report run runAnswers runBytes runBytesAnswers toldMargin toldHoldUp reasonOf placeOf toldCheck tableOf markingOf imagesNumber fieldsNumber fieldsTold relationFrom numbersNumber tableFrom buildNumber build relationToldNumber relationTold classToldNumber heardNumber heardBytes heardOutput
+unfolding cases worked mistakes turning answer causedIn every some lowest howMany repeated placesFrom belowFrom firstOf has setOf sizeOf lowestOf field bytesOf timeFits relationNumber tableNumber stateFits countFits recordFits markingNumber markingNumberFor judged relationAt relationImageNumber tableImageNumber tableIn readTable recordAt markingImageNumber readMarking headerImage classImage relationImage writeTableNumber writeTable recordImage carriedAt carried carryNumber carryMarking pieces stops blocks isEnabled withDeadline excludes includes given smallest executed withInclusion effectAt effect isDue anyDue dueSet later time plainTickNumber plainTick requestNumber reportNumber request marginOf margin holdUpOf holdUp busy follows widened widenedFully closure closureAnswer unreportable uncausable waiting awaited onCycle reopening reviving verdict check holdsBack needed ready orderOf taken takenAll executedOf caused guarded guardedTick inTurn effects discharges shortest remedyNumber remedy stepNumber stepDone stepped endOf answersOf traceNumber stepsIn station writeNumber writeMarking fresh enabledAnswer dueAnswer report run runAnswers runBytes runBytesAnswers toldMargin toldHoldUp reasonOf placeOf toldCheck tableOf markingOf imagesNumber fieldsNumber fieldsTold relationFrom numbersNumber tableFrom buildNumber build relationToldNumber relationTold classToldNumber heardNumber heardBytes heardOutput
 told-right = refl

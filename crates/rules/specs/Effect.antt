@@ -1,15 +1,15 @@
--- Effect of e. First e becomes happened with age 0 and not pending. Then, for each target: excluded if e excludes it, included if e includes
--- it, inclusion winning over exclusion. A target of responses gets the smallest of their deadlines ("eventually" is largest), replacing
--- what it had.
+-- Effect of e. First e becomes happened with age 0 and not pending, and its count grows by 1, held at its limit. Then, for each target: excluded
+-- if e excludes it, included if e includes it, inclusion winning over exclusion. A target of responses gets the smallest of their deadlines
+-- ("eventually" is largest), replacing what it had.
 use mathlib.Core.Bool.{Bool, true, false, _&&_, cond}
-use Prim.Native.Nat.{ℕ, zero, suc, min}
+use Prim.Native.Nat.{ℕ, zero, suc, _+_, min}
 use lib.Dec.{eqb}
 use Rattle.rules.specs.declared.Relation.{Relation}
 use Rattle.rules.specs.declared.Table.{Table}
 use Rattle.rules.specs.declared.Record.{Record}
 use Rattle.rules.specs.declared.Marking.{Marking}
 use Rattle.rules.specs.Counting.{some, eachBelow}
-use Rattle.rules.specs.Holds.{isResponse, isInclusion, isExclusion, relationOf, withRecords}
+use Rattle.rules.specs.Holds.{countLimit, isResponse, isInclusion, isExclusion, relationOf, withRecords}
 
 -- when an event is to be done: it is not pending, or eventually, or within so many ticks
 pub data Deadline : Type 0 where
@@ -54,6 +54,7 @@ withDeadline r d = record {
   included = r .included;
   pending = isPending d;
   bounded = isBounded d;
+  count = r .count;
 }
 
 -- the rule by which a response meets an old deadline: the new one replaces it
@@ -86,7 +87,15 @@ response t e x = smallest t e x (t .count)
 
 -- first e itself
 unfoldable pub executed : Record → Record
-executed r = record { age = 0; deadline = 0; happened = true; included = r .included; pending = false; bounded = false }
+executed r = record {
+  age = 0;
+  deadline = 0;
+  happened = true;
+  included = r .included;
+  pending = false;
+  bounded = false;
+  count = min (r .count + 1) countLimit;
+}
 
 -- then each target's inclusion
 unfoldable pub withInclusion : Table → ℕ → ℕ → Record → Record
@@ -97,6 +106,7 @@ withInclusion t e x r = record {
   included = cond (includes t e x) true (cond (excludes t e x) false (r .included));
   pending = r .pending;
   bounded = r .bounded;
+  count = r .count;
 }
 
 -- then each target's deadline

@@ -11,6 +11,7 @@ use Rattle.rules.specs.declared.Step.{Step}
 use Rattle.rules.specs.Numbers.{marginNumber, holdUpNumber, checkNumber}
 use Rattle.rules.specs.Judge.{tableNumber, markingNumberFor}
 use Rattle.rules.specs.Image.{readTable, readMarking, writeTableNumber, writeNumber, fresh}
+use Rattle.rules.specs.Carrying.{carryNumber}
 use Rattle.rules.specs.Enabled.{enabledAnswer}
 use Rattle.rules.specs.Time.{dueAnswer, plainTick}
 use Rattle.rules.specs.Ask.{request, report}
@@ -36,6 +37,7 @@ pub record EveryCall (P : ℕ → Type 0) : Type 0 where
   pub of-read-marking : (events : ℕ) (image : List ℕ) → P (readMarking events image .number)
   pub of-write-table : (t : Table) (room : ℕ) → P (writeTableNumber t room)
   pub of-write-marking : (m : Marking) (room : ℕ) → P (writeNumber m room)
+  pub of-carry-marking : (events : ℕ) (old : List ℕ) (room : ℕ) → P (carryNumber events old room)
   pub of-fresh : (events : ℕ) → P (fresh events .number)
   pub of-judge-table : (t : Table) → P (tableNumber t)
   pub of-judge-marking : (events : ℕ) (m : Marking) → P (markingNumberFor events m)

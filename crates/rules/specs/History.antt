@@ -29,6 +29,12 @@ passesIn [] = 0
 passesIn (executes e ∷ rest) = passesIn rest
 passesIn (passes ∷ rest) = suc (passesIn rest)
 
+-- how often event x is executed in them
+unfoldable pub executionsOf : ℕ → List Act → ℕ
+executionsOf x [] = 0
+executionsOf x (executes e ∷ rest) = cond (eqb x e) (suc (executionsOf x rest)) (executionsOf x rest)
+executionsOf x (passes ∷ rest) = executionsOf x rest
+
 -- the events of a list are executed, then time passes
 unfoldable pub thenPass : List ℕ → List Act
 thenPass [] = passes ∷ []

@@ -13,6 +13,10 @@ use Rattle.rules.specs.EventSet.{has}
 abbrev pub limit : ℕ
 limit = 1_000_000_000
 
+-- a count is held at this
+abbrev pub countLimit : ℕ
+countLimit = 4_294_967_295
+
 -- a table has at most so many events, and at most so many relations
 abbrev pub mostEvents : ℕ
 mostEvents = 64
@@ -43,7 +47,7 @@ abbrev pub emptyRelation : Relation
 emptyRelation = record { kind = 0; left = 0; right = 0; bounded = false; time = 0 }
 
 abbrev pub emptyRecord : Record
-emptyRecord = record { age = 0; deadline = 0; happened = false; included = false; pending = false; bounded = false }
+emptyRecord = record { age = 0; deadline = 0; happened = false; included = false; pending = false; bounded = false; count = 0 }
 
 abbrev pub emptyTable : Table
 emptyTable = record { relations = replicate mostRelations emptyRelation; controllable = 0; causable = 0; events = 0; count = 0 }

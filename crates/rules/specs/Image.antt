@@ -136,19 +136,24 @@ pub record ImageHolds (t : Table) : Type 0 where
 unfoldable pub unusedEmpty : Table → Table
 unusedEmpty t = tableWith (t .events) (t .count) (relationOf t) (isControllable t) (isCausable t)
 
--- Marking image: 8 bytes per event, no header: happened 1, age 30, included 1, pending 1, bounded 1, deadline 30
+-- Marking image: 12 bytes per event, no header: happened 1, age 30, included 1, pending 1, bounded 1, deadline 30, count 32
 abbrev pub recordBytes : ℕ
-recordBytes = 8
+recordBytes = 12
 
-unfoldable pub recordAt : List ℕ → ℕ → Record
-recordAt image p = record {
+-- the fields before the count, beside a count
+abbrev pub stateAt : List ℕ → ℕ → ℕ → Record
+stateAt image p count = record {
   age = field image (p + 1) 30;
   deadline = field image (p + 34) 30;
   happened = flag image p;
   included = flag image (p + 31);
   pending = flag image (p + 32);
   bounded = flag image (p + 33);
+  count = count;
 }
+
+unfoldable pub recordAt : List ℕ → ℕ → Record
+recordAt image p = stateAt image p (field image (p + 64) 32)
 
 abbrev pub recordBit : ℕ → ℕ
 recordBit e = 8 * (recordBytes * e)
@@ -173,7 +178,7 @@ readMarking events image =
 unfoldable pub recordImage : Record → List ℕ
 recordImage r =
     bytesOf recordBytes
-    (bit (r .happened) ▸ 30 ∶ r .age ▸ 1 ∶ bit (r .included) ▸ 1 ∶ bit (r .pending) ▸ 1 ∶ bit (r .bounded) ▸ 30 ∶ r .deadline)
+    (bit (r .happened) ▸ 30 ∶ r .age ▸ 1 ∶ bit (r .included) ▸ 1 ∶ bit (r .pending) ▸ 1 ∶ bit (r .bounded) ▸ 30 ∶ r .deadline ▸ 32 ∶ r .count)
 
 -- the record of event e, and the records of a marking in order
 abbrev pub eventImage : Marking → ℕ → List ℕ
@@ -190,9 +195,9 @@ writeNumber m room = markingNumber m else 14 if ltb room (recordBytes * m .event
 unfoldable pub writeMarking : Marking → List ℕ → List ℕ
 writeMarking m buffer = done (writeNumber m (length buffer)) (markingImage m ++ drop (recordBytes * m .events) buffer) buffer
 
--- A fresh marking: not happened, included, not pending; 0 or above 64 events gives 3
+-- A fresh marking: not happened, included, not pending, count 0; 0 or above 64 events gives 3
 abbrev pub freshRecord : Record
-freshRecord = record { age = 0; deadline = 0; happened = false; included = true; pending = false; bounded = false }
+freshRecord = record { age = 0; deadline = 0; happened = false; included = true; pending = false; bounded = false; count = 0 }
 
 unfoldable pub fresh : ℕ → MarkingAnswer
 fresh events =

@@ -36,15 +36,15 @@ putBack number m buffer = done number (markingImage m) buffer
 unfoldable pub guardNumber : List ℕ → List ℕ → ℕ → ℕ
 guardNumber table marking room = imagesNumber table marking else 14 if ltb room (tableOf table .events)
 
--- the record of an event, field by field in the image's order: happened, age, included, pending, bounded, deadline
+-- the record of an event, field by field in the image's order: happened, age, included, pending, bounded, deadline, count
 abbrev pub recordFields : Record → List ℕ
-recordFields r = bit (r .happened) ∷ r .age ∷ bit (r .included) ∷ bit (r .pending) ∷ bit (r .bounded) ∷ r .deadline ∷ []
+recordFields r = bit (r .happened) ∷ r .age ∷ bit (r .included) ∷ bit (r .pending) ∷ bit (r .bounded) ∷ r .deadline ∷ r .count ∷ []
 
 -- 8 for an event that does not exist, then 14 for fewer places than fields
 unfoldable pub fieldsNumber : List ℕ → List ℕ → ℕ → ℕ → ℕ
-fieldsNumber table marking event room = imagesNumber table marking else eventNumber (tableOf table) event else 14 if ltb room 6
+fieldsNumber table marking event room = imagesNumber table marking else eventNumber (tableOf table) event else 14 if ltb room 7
 
 -- what the lent places hold afterwards: the fields first, and later places stay
 unfoldable pub fieldsTold : List ℕ → List ℕ → ℕ → List ℕ → List ℕ
 fieldsTold table marking event places =
-    done (fieldsNumber table marking event (length places)) (recordFields (recordOf (markingOf table marking) event) ++ drop 6 places) places
+    done (fieldsNumber table marking event (length places)) (recordFields (recordOf (markingOf table marking) event) ++ drop 7 places) places

@@ -7,7 +7,7 @@ use Rattle.rules.specs.declared.Table.{Table}
 use Rattle.rules.specs.declared.Record.{Record}
 use Rattle.rules.specs.declared.Marking.{Marking}
 use Rattle.rules.specs.Numbers.{_if_, _else_, firstOf}
-use Rattle.rules.specs.Holds.{limit, mostEvents, mostRelations, isCondition, isResponse, relationOf, recordOf}
+use Rattle.rules.specs.Holds.{limit, countLimit, mostEvents, mostRelations, isCondition, isResponse, relationOf, recordOf}
 
 -- 1 to 64 events, 0 to 256 relations
 abbrev pub eventsFit : ℕ → Bool
@@ -37,10 +37,17 @@ tableNumber t =
     else firstOf (t .count) (λ k. relationNumber (t .events) (relationOf t k))
 
 -- Age is 0 if not happened; bounded and deadline are 0 if not pending; deadline is 0 if not bounded; both are at most the limit.
-unfoldable pub recordFits : Record → Bool
-recordFits r =
+unfoldable pub stateFits : Record → Bool
+stateFits r =
     leb (r .age) (cond (r .happened) limit 0)
     && (cond (r .pending) true (not (r .bounded)) && leb (r .deadline) (cond (r .bounded) limit 0))
+
+-- A count is 0 if not happened, else 1 to its limit.
+unfoldable pub countFits : Record → Bool
+countFits r = cond (r .happened) (leb 1 (r .count) && leb (r .count) countLimit) (eqb (r .count) 0)
+
+unfoldable pub recordFits : Record → Bool
+recordFits r = stateFits r && countFits r
 
 abbrev pub recordNumber : Record → ℕ
 recordNumber r = 7 if not (recordFits r)

@@ -7,6 +7,7 @@ pub mod Fields
 pub mod Pieces
 pub mod Judge
 pub mod Image
+pub mod Carrying
 pub mod Enabled
 pub mod Effect
 pub mod Time

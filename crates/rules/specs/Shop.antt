@@ -44,18 +44,21 @@ marking records = record { records = records ++ replicate (mostEvents - length r
 
 -- records, by what they say
 abbrev pub idle : Record
-idle = record { age = 0; deadline = 0; happened = false; included = true; pending = false; bounded = false }
+idle = record { age = 0; deadline = 0; happened = false; included = true; pending = false; bounded = false; count = 0 }
 
 abbrev pub excluded : Record
-excluded = record { age = 0; deadline = 0; happened = false; included = false; pending = false; bounded = false }
+excluded = record { age = 0; deadline = 0; happened = false; included = false; pending = false; bounded = false; count = 0 }
 
 -- pending within d ticks, included or not
 abbrev pub pendingWithin : Bool → ℕ → Record
-pendingWithin i d = record { age = 0; deadline = d; happened = false; included = i; pending = true; bounded = true }
+pendingWithin i d = record { age = 0; deadline = d; happened = false; included = i; pending = true; bounded = true; count = 0 }
 
--- happened so long ago, not pending
+-- happened so long ago, so often, not pending; and once
+abbrev pub happenedTimes : ℕ → ℕ → Record
+happenedTimes a n = record { age = a; deadline = 0; happened = true; included = true; pending = false; bounded = false; count = n }
+
 abbrev pub happened : ℕ → Record
-happened a = record { age = a; deadline = 0; happened = true; included = true; pending = false; bounded = false }
+happened a = happenedTimes a 1
 
 -- steps
 abbrev pub request : ℕ → Step
@@ -155,7 +158,11 @@ abbrev pub hexTable : List ℕ
 hexTable = 0x04 ∷ 0x01 ∷ 0x00 ∷ 0x00 ∷ 0x40 ∷ 0x80 ∷ 0x40 ∷ 0x01 ∷ 0x00 ∷ 0x00 ∷ 0x00 ∷ 0x04 ∷ []
 
 abbrev pub hexMarking : List ℕ
-hexMarking = (0x00 ∷ 0x00 ∷ 0x00 ∷ 0x01 ∷ 0xC0 ∷ 0x00 ∷ 0x00 ∷ 0x00 ∷ []) ++ replicate 8 0
+hexMarking = (0x00 ∷ 0x00 ∷ 0x00 ∷ 0x01 ∷ 0xC0 ∷ 0x00 ∷ 0x00 ∷ 0x00 ∷ 0x00 ∷ 0x00 ∷ 0x00 ∷ 0x00 ∷ []) ++ replicate 12 0
 
 abbrev pub hexRecord : List ℕ
-hexRecord = 0x80 ∷ 0x00 ∷ 0x00 ∷ 0x03 ∷ 0xC0 ∷ 0x00 ∷ 0x00 ∷ 0x00 ∷ []
+hexRecord = 0x80 ∷ 0x00 ∷ 0x00 ∷ 0x03 ∷ 0xC0 ∷ 0x00 ∷ 0x00 ∷ 0x00 ∷ 0x00 ∷ 0x00 ∷ 0x00 ∷ 0x01 ∷ []
+
+-- an old image of the same two events: the one has happened, the other not
+abbrev pub hexOld : List ℕ
+hexOld = (0x80 ∷ 0x00 ∷ 0x00 ∷ 0x03 ∷ 0xC0 ∷ 0x00 ∷ 0x00 ∷ 0x00 ∷ []) ++ replicate 8 0

@@ -38,6 +38,7 @@ later r = record {
   included = r .included;
   pending = r .pending;
   bounded = r .bounded;
+  count = r .count;
 }
 
 unfoldable pub time : Marking → Marking

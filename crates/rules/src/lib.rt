@@ -21,7 +21,7 @@ pub struct Table {
     pub count: usize,
 }
 
-// What a marking holds of one event.
+// What a marking holds of one event. `count` is how often it was executed.
 pub struct Record {
     pub age: u32,
     pub deadline: u32,
@@ -29,6 +29,7 @@ pub struct Record {
     pub included: bool,
     pub pending: bool,
     pub bounded: bool,
+    pub count: u32,
 }
 
 pub struct Marking {
@@ -143,8 +144,11 @@ impl Marking {
     // Ages, times and deadlines are at most this.
     pub const AGE_LIMIT: u32 = 1_000_000_000;
 
+    // A count is held at this.
+    pub const COUNT_LIMIT: u32 = 4_294_967_295;
+
     // The bytes of a record in a marking's image.
-    pub const RECORD_BYTES: usize = 8;
+    pub const RECORD_BYTES: usize = 12;
 
     // No events, and every place empty.
     pub fn empty() -> Marking
@@ -157,6 +161,7 @@ impl Marking {
             included: false,
             pending: false,
             bounded: false,
+            count: 0,
         };
         Marking {
             records: [nothing; Table::MOST_EVENTS],
@@ -181,6 +186,7 @@ impl Marking {
             included: true,
             pending: false,
             bounded: false,
+            count: 0,
         };
         let mut records = Marking::empty().records;
         let mut i = 0;

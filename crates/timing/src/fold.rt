@@ -42,11 +42,13 @@ pub fn closure(sum: u64, a: ClosureAnswer) -> u64 {
     taken(taken(taken(sum, a.number as u64), a.set), a.size as u64)
 }
 
+// The count stands above the bits of a sum that decide what a call is handed, so the calls are those of a record without one.
 fn record_word(r: Record) -> u64 {
     let times = taken(r.age as u64, r.deadline as u64);
     let past = taken(r.happened as u64, r.included as u64);
     let duty = taken(r.pending as u64, r.bounded as u64);
-    taken(times, taken(past, duty))
+    let rest = taken(times, taken(past, duty));
+    rest % 4_294_967_296 + r.count as u64 % 65_536 * 65_536
 }
 
 // What a record shows of a marking.

@@ -36,7 +36,7 @@ pub extern "C" fn timing_write_table(table: &[u8], buffer: &mut [u8], mut times:
 
 #[no_mangle]
 pub extern "C" fn timing_read_marking(events: usize, bytes: &mut [u8], mut times: usize) -> u64 {
-    if bytes.len() < 8 {
+    if bytes.len() < Marking::RECORD_BYTES {
         return 0;
     }
     let mut sum = 1;
@@ -60,6 +60,30 @@ pub extern "C" fn timing_write_marking(
     while times > 0 {
         times -= 1;
         sum = fold::number(sum, image::write_marking(start::stirred(m, sum), buffer));
+    }
+    sum
+}
+
+// An old image is changed in the same way, and its changed byte, where it is carried to, is taken into the sum.
+#[no_mangle]
+pub extern "C" fn timing_carry_marking(
+    events: usize,
+    old: &mut [u8],
+    buffer: &mut [u8],
+    mut times: usize,
+) -> u64 {
+    if old.len() < 4 {
+        return 0;
+    }
+    if buffer.len() < 4 {
+        return 0;
+    }
+    let mut sum = 1;
+    while times > 0 {
+        times -= 1;
+        old[3] = 1 + 2 * (sum % 128) as u8;
+        sum = fold::number(sum, image::carry_marking(events, old, buffer));
+        sum = fold::number(sum, buffer[3]);
     }
     sum
 }

@@ -14,7 +14,7 @@ pub fn answer(call: u8, s: &[u8], out: &mut [u8]) -> usize {
         19 => list_calls::remedies(s, out),
         20 => list_calls::run(false, s, out),
         21 => list_calls::run(true, s, out),
-        22 => images::answer(call, s, out),
+        22..=23 => images::answer(call, s, out),
         _ => answer::put_told(out, engine_calls::told(call, s)),
     }
 }

@@ -21,7 +21,7 @@ pub fn length_at(s: &[u8], at: usize) -> usize
 }
 
 // Four bytes.
-pub fn time_at(s: &[u8], at: usize) -> u32
+pub fn word_at(s: &[u8], at: usize) -> u32
     requires { ⌜ at + 4 ≤ 65536 ⌝ }
 {
     let low = length_at(s, at) as u32;
@@ -33,8 +33,8 @@ pub fn time_at(s: &[u8], at: usize) -> u32
 pub fn number_at(s: &[u8], at: usize) -> u64
     requires { ⌜ at + 8 ≤ 65536 ⌝ }
 {
-    let low = time_at(s, at) as u64;
-    let high = time_at(s, at + 4) as u64;
+    let low = word_at(s, at) as u64;
+    let high = word_at(s, at + 4) as u64;
     low + high * 4294967296
 }
 

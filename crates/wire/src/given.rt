@@ -1,5 +1,5 @@
-// What a call is given. The engine's calls have a table and a marking, and behind both an event or relation asked about, or two lists: the first
-// with its length before it, 2 bytes, the second what is left.
+// What a call is given. The engine's calls have a table and a marking, and behind both an event or relation asked about, or two lists. Of two
+// lists the first has its length before it, 2 bytes, and the second is what is left.
 use crate::bytes;
 pub use crate::bytes::byte_at;
 use rules::Marking;
@@ -11,7 +11,7 @@ ghost use Prim.Native.Nat.{_+_, _≤_};
 // The bytes of a table, and of a marking.
 pub const TABLE: u16 = 2080;
 
-pub const MARKING: u16 = 776;
+pub const MARKING: u16 = 1032;
 
 // What is left from a place on.
 pub fn after(s: &[u8], at: usize) -> &[u8] {
@@ -36,7 +36,7 @@ fn relation_at(s: &[u8], at: usize) -> Relation
         left: bytes::byte_at(s, at + 1),
         right: bytes::byte_at(s, at + 2),
         bounded: bytes::bool_at(s, at + 3),
-        time: bytes::time_at(s, at + 4),
+        time: bytes::word_at(s, at + 4),
     }
 }
 
@@ -69,15 +69,16 @@ pub fn table(s: &[u8]) -> Table {
 }
 
 fn record_at(s: &[u8], at: usize) -> Record
-    requires { ⌜ at + 12 ≤ 65536 ⌝ }
+    requires { ⌜ at + 16 ≤ 65536 ⌝ }
 {
     Record {
-        age: bytes::time_at(s, at),
-        deadline: bytes::time_at(s, at + 4),
+        age: bytes::word_at(s, at),
+        deadline: bytes::word_at(s, at + 4),
         happened: bytes::bool_at(s, at + 8),
         included: bytes::bool_at(s, at + 9),
         pending: bytes::bool_at(s, at + 10),
         bounded: bytes::bool_at(s, at + 11),
+        count: bytes::word_at(s, at + 12),
     }
 }
 
@@ -89,11 +90,12 @@ fn records(s: &[u8]) -> [Record; 64] {
         included: false,
         pending: false,
         bounded: false,
+        count: 0,
     };
     let mut records = [nothing; 64];
     let mut i = 0;
     while i < 64 {
-        records[i] = record_at(s, i * 12);
+        records[i] = record_at(s, i * 16);
         i += 1;
     }
     records
@@ -103,7 +105,7 @@ fn records(s: &[u8]) -> [Record; 64] {
 pub fn marking(s: &[u8]) -> Marking {
     Marking {
         records: records(s),
-        events: bytes::number_at(s, 768) as usize,
+        events: bytes::number_at(s, 1024) as usize,
     }
 }
 
@@ -122,12 +124,21 @@ pub fn asked(s: &[u8]) -> usize {
     number(behind(s)) as usize
 }
 
-pub fn first_list(s: &[u8]) -> &[u8] {
-    let lists = behind(s);
+// The first of two lists.
+pub fn first(lists: &[u8]) -> &[u8] {
     before(after(lists, 2), bytes::length_at(lists, 0))
 }
 
-pub fn second_list(s: &[u8]) -> &[u8] {
-    let lists = behind(s);
+// The second of two lists.
+pub fn second(lists: &[u8]) -> &[u8] {
     after(after(lists, 2), bytes::length_at(lists, 0))
+}
+
+// The lists behind a table and a marking.
+pub fn first_list(s: &[u8]) -> &[u8] {
+    first(behind(s))
+}
+
+pub fn second_list(s: &[u8]) -> &[u8] {
+    second(behind(s))
 }

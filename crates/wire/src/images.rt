@@ -1,4 +1,4 @@
-// Calls 1 to 6 and 22: the image reader's, and a fresh marking. An event count comes first where a call is given one; a marking, an image or a
+// Calls 1 to 6, 22 and 23: the image reader's, and a fresh marking. An event count comes first where a call is given one; a marking, an image or a
 // buffer is behind it. A buffer to write to is behind what is written.
 use crate::answer;
 use crate::given;
@@ -25,6 +25,15 @@ fn write_table(s: &[u8], out: &mut [u8]) -> usize {
     1 + buffer.len()
 }
 
+// Behind the event count the old image and the buffer are two lists.
+fn carry_marking(s: &[u8], out: &mut [u8]) -> usize {
+    let lists = given::after(s, 8);
+    let buffer = given::second(lists);
+    let number = image::carry_marking(events(s), given::first(lists), answer::lent(out, 1, buffer));
+    answer::put_told(out, told::number(number));
+    1 + buffer.len()
+}
+
 fn judge_marking(s: &[u8]) -> u8 {
     image::judge_marking(events(s), given::marking(given::after(s, 8)))
 }
@@ -39,6 +48,7 @@ pub fn answer(call: u8, s: &[u8], out: &mut [u8]) -> usize {
         5 => answer::put_told(out, told::number(image::judge_table(given::table(s)))),
         6 => answer::put_told(out, told::number(judge_marking(s))),
         22 => write_table(s, out),
+        23 => carry_marking(s, out),
         _ => 0,
     }
 }

@@ -38,31 +38,32 @@ fn times(r: Record) -> u64 {
     r.age as u64 + r.deadline as u64 * 4294967296
 }
 
-fn flags(r: Record) -> u64 {
-    bytes::word(
+fn flags_and_count(r: Record) -> u64 {
+    let flags = bytes::word(
         r.happened as u8,
         r.included as u8,
         r.pending as u8,
         r.bounded as u8,
-    )
+    );
+    flags + r.count as u64 * 4294967296
 }
 
 fn put_records(out: &mut [u8], at: usize, m: Marking)
-    requires { ⌜ at + 768 ≤ 65536 ⌝ }
+    requires { ⌜ at + 1024 ≤ 65536 ⌝ }
 {
     let mut i = 0;
     while i < 64 {
         let r = m.records[i];
-        let start = at + i * 12;
+        let start = at + i * 16;
         bytes::put_number(out, start, 8, times(r));
-        bytes::put_number(out, start + 8, 4, flags(r));
+        bytes::put_number(out, start + 8, 8, flags_and_count(r));
         i += 1;
     }
 }
 
 pub fn put_marking(out: &mut [u8], at: usize, m: Marking)
-    requires { ⌜ at + 776 ≤ 65536 ⌝ }
+    requires { ⌜ at + 1032 ≤ 65536 ⌝ }
 {
     put_records(out, at, m);
-    bytes::put_number(out, at + 768, 8, m.events as u64);
+    bytes::put_number(out, at + 1024, 8, m.events as u64);
 }

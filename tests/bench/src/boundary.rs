@@ -6,7 +6,7 @@
 use second::case::{Case, Pair};
 use second::generate::{self, marking_image, table_image};
 use second::rng::Rng;
-use second::{HoldUpAnswer, MarginAnswer, Marking, MarkingAnswer, Table};
+use second::{HoldUpAnswer, MarginAnswer, Marking, MarkingAnswer, Table, RECORD_BYTES};
 use std::collections::BTreeSet;
 use std::io::{Read, Write};
 use std::sync::mpsc::channel;
@@ -14,7 +14,7 @@ use std::thread;
 
 /// The fields of a record, of 4 bytes each in a question's second list, as the
 /// numbers of a relation are.
-const FIELDS: usize = 6;
+const FIELDS: usize = 7;
 
 /// What an out-parameter holds before a call.
 const BEFORE: u8 = 0xEE;
@@ -29,7 +29,7 @@ const fn call(name: &'static str, case: fn(&mut Rng) -> Case) -> Call {
 }
 
 /// By their numbers in a question. Judging and records take the cases of other calls.
-const CALLS: [Call; 20] = [
+const CALLS: [Call; 21] = [
     call("judge", generate::due_case),
     call("fresh", generate::fresh_case),
     call("size", generate::size_case),
@@ -50,6 +50,7 @@ const CALLS: [Call; 20] = [
     call("write_table", generate::build_table_case),
     call("relation", generate::tell_relation_case),
     call("class", generate::tell_class_case),
+    call("carry", generate::carry_marking_case),
 ];
 
 /// The numbers that some call gives; 15 is a step's.
@@ -57,10 +58,12 @@ const NUMBERS: std::ops::RangeInclusive<u8> = 0..=14;
 
 /// The numbers that each of these calls gives. Most are given by other calls too,
 /// so they are looked for call by call.
-const NUMBERS_OF: [(&str, &[u8]); 3] = [
+const NUMBERS_OF: [(&str, &[u8]); 5] = [
+    ("record", &[0, 1, 2, 3, 4, 5, 6, 7, 8, 14]),
     ("write_table", &[0, 1, 2, 3, 4, 5, 6, 14]),
     ("relation", &[0, 1, 2, 3, 4, 5, 6, 8, 14]),
     ("class", &[0, 1, 2, 3, 4, 5, 6, 8]),
+    ("carry", &[0, 1, 3, 7, 14]),
 ];
 
 /// Which numbers came up, and of which call.
@@ -144,7 +147,7 @@ impl Question {
         match case {
             Case::Fresh { events } => {
                 question.asked = events as u64;
-                question.marking = buffer(rng, 8 * events.min(70));
+                question.marking = buffer(rng, RECORD_BYTES * events.min(70));
             }
             Case::Size { set } | Case::Lowest { set } => question.asked = set,
             Case::Enabled { event, .. }
@@ -183,6 +186,14 @@ impl Question {
             }
             Case::TellClass { image, event, .. } => {
                 (question.table, question.asked) = (image, event as u64);
+            }
+            Case::CarryMarking {
+                events,
+                old,
+                buffer,
+            } => {
+                question.asked = events as u64;
+                (question.first, question.second) = (old, buffer);
             }
             _ => {}
         }
@@ -240,6 +251,7 @@ impl Question {
                 answer
             }
             "write_table" => self.write_table(),
+            "carry" => self.carry(),
             _ => {
                 let table = second::read_table(&self.table);
                 if table.number != 0 {
@@ -277,6 +289,14 @@ impl Question {
         let mut answer = self.untouched(0);
         let (events, table) = (self.asked as usize, &mut answer.second);
         answer.number = second::build_table(events, &self.first, &relations, table);
+        answer
+    }
+
+    /// The old image is the first list, the lent buffer the second.
+    fn carry(&self) -> Answer {
+        let mut answer = self.untouched(0);
+        let (events, marking) = (self.asked as usize, &mut answer.second);
+        answer.number = second::carry_marking(events, &self.first, marking);
         answer
     }
 
@@ -507,7 +527,7 @@ mod tests {
     #[test]
     fn a_number_that_does_not_come_up_is_missed() {
         let mut seen: Seen = NUMBERS.map(|number| ("run", number)).collect();
-        assert_eq!(missing(&seen).len(), 8 + 9 + 8);
+        assert_eq!(missing(&seen).len(), 10 + 8 + 9 + 8 + 5);
         for (name, numbers) in NUMBERS_OF {
             seen.extend(numbers.iter().map(|&number| (name, number)));
         }
@@ -515,13 +535,20 @@ mod tests {
         seen.remove(&("write_table", 14));
         seen.remove(&("run", 13));
         assert_eq!(missing(&seen), [("any call", 13), ("write_table", 14)]);
+        seen.insert(("run", 13));
+        seen.insert(("write_table", 14));
+        for number in [0, 1, 3, 7, 14] {
+            let mut without = seen.clone();
+            without.remove(&("carry", number));
+            assert_eq!(missing(&without), [("carry", number)]);
+        }
     }
 
     #[test]
     fn a_refused_question_touches_nothing() {
         let mut rng = Rng::new(2);
         let of_a_table = |call: &usize| {
-            let others = ["fresh", "size", "lowest", "write_table"];
+            let others = ["fresh", "size", "lowest", "write_table", "carry"];
             !others.contains(&CALLS[*call].name)
         };
         for call in (0..CALLS.len()).filter(of_a_table) {
@@ -586,5 +613,56 @@ mod tests {
         let told = question.expected();
         assert_eq!((told.number, told.small), (0, 0x80));
         assert_eq!(told.second, question.second);
+    }
+
+    #[test]
+    fn a_record_is_told_in_seven_places_and_not_in_six() {
+        let table = vec![4, 0, 0, 0, 0x80, 0x80];
+        let mut marking = vec![0; 12];
+        marking.extend([0x80, 0, 0, 3, 0xC0, 0, 0, 5, 1, 2, 3, 4]);
+        let mut question = Question {
+            call: number_of("record"),
+            asked: 1,
+            table,
+            marking,
+            first: Vec::new(),
+            second: vec![7; 4 * 7 + 1],
+        };
+        let fields = bytes_of(&[1, 1, 1, 1, 1, 5, 0x0102_0304]);
+        let told = question.expected();
+        assert_eq!(
+            (told.number, told.second),
+            (0, [&fields, &[7][..]].concat())
+        );
+        // Three bytes behind the sixth place are no place.
+        question.second = vec![7; 4 * 6 + 3];
+        assert_eq!(question.expected(), question.untouched(14));
+    }
+
+    #[test]
+    fn an_old_marking_is_carried_over_in_the_lists_of_a_question() {
+        let mut question = Question {
+            call: number_of("carry"),
+            asked: 2,
+            table: vec![1, 2, 3],
+            marking: vec![4, 5, 6],
+            first: vec![0x80, 0, 0, 3, 0xC0, 0, 0, 5, 0, 0, 0, 1, 0, 0, 0, 0],
+            second: vec![7; 25],
+        };
+        let image = [
+            0x80, 0, 0, 3, 0xC0, 0, 0, 5, 0, 0, 0, 1, 0, 0, 0, 1, 0, 0, 0, 0, 0, 0, 0, 0, 7,
+        ];
+        let mut done = question.untouched(0);
+        done.second = image.to_vec();
+        assert_eq!(question.expected(), done);
+        // The last refusal first, each before the one that was there.
+        question.second.truncate(23);
+        assert_eq!(question.expected(), question.untouched(14));
+        question.first[0] = 0;
+        assert_eq!(question.expected(), question.untouched(7));
+        question.first.push(0);
+        assert_eq!(question.expected(), question.untouched(1));
+        question.asked += 1 << 61;
+        assert_eq!(question.expected(), question.untouched(3));
     }
 }

@@ -29,7 +29,7 @@ const fn call(
     }
 }
 
-pub const CALLS: [Call; 22] = [
+pub const CALLS: [Call; 23] = [
     call(
         1,
         "read_table",
@@ -84,13 +84,19 @@ pub const CALLS: [Call; 22] = [
         edges::guarded_tick,
     ),
     call(19, "remedies", generate::remedies_case, edges::none),
-    call(20, "run", generate::run_case, edges::none),
-    call(21, "run_bytes", generate::run_bytes_case, edges::none),
+    call(20, "run", generate::run_case, edges::run),
+    call(21, "run_bytes", generate::run_bytes_case, edges::run_bytes),
     call(
         22,
         "write_table",
         generate::write_table_case,
         edges::write_table,
+    ),
+    call(
+        23,
+        "carry_marking",
+        generate::carry_marking_case,
+        edges::carry_marking,
     ),
 ];
 

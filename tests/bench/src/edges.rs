@@ -3,10 +3,16 @@
 //! a record at each of its limits, faults where no call looks, and two faults at
 //! once, whose order decides the number.
 
+mod carrying;
+mod counted;
+
+pub use carrying::carry_marking;
+pub use counted::{run, run_bytes};
+
 use crate::full;
 use second::case::{Case, Pair};
 use second::generate::{marking_image, table_image};
-use second::{Marking, Record, Relation, Table};
+use second::{Marking, Record, Relation, Table, RECORD_BYTES};
 
 const LIMIT: u32 = 1_000_000_000;
 
@@ -25,7 +31,9 @@ const TIMES: [u32; 10] = [
 ];
 const TIMES_OF_AN_IMAGE: &[u32] = TIMES.split_at(6).0;
 
-const EVENT_COUNTS: [usize; 18] = [
+/// So many records as the last ones ask have a length that 64 bits do not hold, and
+/// cut to them some have the length of no record or of one.
+const EVENT_COUNTS: [usize; 20] = [
     0,
     1,
     2,
@@ -42,6 +50,8 @@ const EVENT_COUNTS: [usize; 18] = [
     (1 << 32) + 1,
     1 << 61,
     (1 << 61) + 1,
+    1 << 62,
+    (1 << 62) + 1,
     1 << 63,
     usize::MAX,
 ];
@@ -115,6 +125,7 @@ fn sound_record(event: usize) -> Record {
         included: event % 3 != 0,
         pending: event % 5 != 0,
         bounded: event % 5 == 1 || event % 5 == 4,
+        count: [0, 0, event as u32, u32::MAX][event % 4],
     }
 }
 
@@ -204,7 +215,8 @@ fn tables_with_last(relations: Vec<Relation>) -> Vec<Table> {
         .collect()
 }
 
-/// Every flag set and not, with each age and each deadline.
+/// Every flag set and not, with each age and each deadline; the count is that of
+/// happened.
 fn records(times: &[u32]) -> Vec<Record> {
     let mut all = Vec::new();
     for flags in 0..16 {
@@ -217,6 +229,7 @@ fn records(times: &[u32]) -> Vec<Record> {
                     included: flags & 2 != 0,
                     pending: flags & 4 != 0,
                     bounded: flags & 8 != 0,
+                    count: 3 * (flags & 1),
                 });
             }
         }
@@ -387,13 +400,15 @@ pub fn read_marking() -> Vec<Case> {
     let mut cases = Vec::new();
     for events in EVENT_COUNTS {
         let image = marking_image(&marking(events));
-        for length in lengths_about(image.len(), 8) {
+        for length in lengths_about(image.len(), RECORD_BYTES) {
             cases.push(read_marking_of(events, resized(&image, length)));
         }
         cases.push(read_marking_of(events, Vec::new()));
+        cases.push(read_marking_of(events, marking_image(&marking(1))));
     }
     let mut markings = markings_with_last(records(TIMES_OF_AN_IMAGE));
     markings.extend(markings_with_one_bad());
+    markings.extend(counted::markings());
     for marking in &markings {
         cases.push(read_marking_of(marking.events, marking_image(marking)));
         // A wrong length and a bad record: the length comes first.
@@ -415,16 +430,19 @@ pub fn write_marking() -> Vec<Case> {
     let mut cases = Vec::new();
     for events in EVENT_COUNTS {
         let marking = marking(events);
-        for length in lengths_about(8 * events.min(70), 8) {
+        for length in lengths_about(RECORD_BYTES * events.min(70), RECORD_BYTES) {
             cases.push(write_marking_of(&marking, length));
         }
         cases.push(write_marking_of(&marking, 0));
+        cases.push(write_marking_of(&marking, RECORD_BYTES));
     }
-    for marking in markings_with_last(records(&TIMES)) {
-        cases.push(write_marking_of(&marking, 8 * SMALL + 3));
+    let mut markings = markings_with_last(records(&TIMES));
+    markings.extend(counted::markings());
+    for marking in &markings {
+        cases.push(write_marking_of(marking, RECORD_BYTES * SMALL + 3));
     }
     for marking in markings_with_one_bad() {
-        for length in lengths_about(8 * marking.events, 8) {
+        for length in lengths_about(RECORD_BYTES * marking.events, RECORD_BYTES) {
             cases.push(write_marking_of(&marking, length));
         }
     }
@@ -569,6 +587,7 @@ pub fn judge_marking() -> Vec<Case> {
     }
     let mut markings = markings_with_last(records(&TIMES));
     markings.extend(markings_with_one_bad());
+    markings.extend(counted::markings());
     cases.extend(
         markings
             .into_iter()
@@ -612,11 +631,15 @@ pub fn enabled() -> Vec<Case> {
 }
 
 pub fn request() -> Vec<Case> {
-    full_cases(&EVENTS_ASKED, |pair, event| Case::Request { pair, event })
+    let mut cases = full_cases(&EVENTS_ASKED, |pair, event| Case::Request { pair, event });
+    cases.extend(counted::requests());
+    cases
 }
 
 pub fn report() -> Vec<Case> {
-    full_cases(&EVENTS_ASKED, |pair, event| Case::Report { pair, event })
+    let mut cases = full_cases(&EVENTS_ASKED, |pair, event| Case::Report { pair, event });
+    cases.extend(counted::reports());
+    cases
 }
 
 pub fn hold_up() -> Vec<Case> {
@@ -652,7 +675,9 @@ pub fn due() -> Vec<Case> {
 }
 
 pub fn plain_tick() -> Vec<Case> {
-    full_cases(&[0], |pair, _| Case::PlainTick { pair })
+    let mut cases = full_cases(&[0], |pair, _| Case::PlainTick { pair });
+    cases.extend(counted::plain_ticks());
+    cases
 }
 
 pub fn closure() -> Vec<Case> {
@@ -664,7 +689,9 @@ pub fn check() -> Vec<Case> {
 }
 
 pub fn guarded_tick() -> Vec<Case> {
-    full_cases(&[0], |pair, _| Case::GuardedTick { pair })
+    let mut cases = full_cases(&[0], |pair, _| Case::GuardedTick { pair });
+    cases.extend(counted::guarded_ticks());
+    cases
 }
 
 #[cfg(test)]
@@ -688,6 +715,7 @@ mod tests {
         assert_eq!(numbers(fresh()), [0, 3]);
         assert_eq!(numbers(judge_table()), [0, 3, 4, 5, 6]);
         assert_eq!(numbers(judge_marking()), [0, 1, 3, 7]);
+        assert_eq!(numbers(carry_marking()), [0, 1, 3, 7, 14]);
     }
 
     #[test]

@@ -34,6 +34,7 @@ fn pair(happened: bool, due: &[usize]) -> Pair {
     let record = Record {
         included: true,
         happened,
+        count: u32::from(happened),
         ..Record::EMPTY
     };
     marking.records = [record; EVENTS];
@@ -71,6 +72,15 @@ pub fn chain() -> Pair {
 pub fn refused() -> Pair {
     let mut pair = chain();
     pair.table.events = 0;
+    pair
+}
+
+/// The same pair with this count for every event, and so happened or not.
+pub fn counted(mut pair: Pair, count: u32) -> Pair {
+    for record in &mut pair.marking.records {
+        record.count = count;
+        record.happened = count > 0;
+    }
     pair
 }
 

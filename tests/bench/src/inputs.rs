@@ -1,9 +1,9 @@
 //! Whole inputs of the station program.
 
 use second::case::Case;
-use second::generate::{marking_image, station_case, table_image};
+use second::generate::{marking_image, old_marking_image, station_case, table_image};
 use second::rng::Rng;
-use second::{fresh, station, Relation, Table};
+use second::{fresh, station, Marking, Record, Relation, Table, RECORD_BYTES};
 use std::collections::BTreeSet;
 
 /// What the station can refuse an input with.
@@ -29,14 +29,13 @@ pub fn wanted() -> BTreeSet<Shown> {
         .collect()
 }
 
-/// A single byte is a refusal: a record is 8 bytes, and there is one at least.
-/// Else the end marking, of as many events as the first 7 bits of the input say,
+/// A single byte is a refusal: a record is longer, and there is one at least. Else the end marking, of as many events as the first 7 bits of the input say,
 /// follows on the answers.
 pub fn shown(input: &[u8], output: &[u8]) -> BTreeSet<Shown> {
     if let [number] = output {
         return [Shown::Refusal(*number)].into();
     }
-    let records = 8 * usize::from(input[0] / 2);
+    let records = RECORD_BYTES * usize::from(input[0] / 2);
     let answers = &output[..output.len() - records];
     answers.iter().copied().map(Shown::Answer).collect()
 }
@@ -82,6 +81,36 @@ fn images(events: usize, count: usize) -> Vec<u8> {
     [table_image(&table), marking_image(&fresh(events).marking)].concat()
 }
 
+/// One event that was executed so often, and a table without relations.
+fn counted(count: u32) -> (Vec<u8>, Marking) {
+    let mut table = Table::EMPTY;
+    table.events = 1;
+    let mut marking = fresh(1).marking;
+    marking.records[0] = Record {
+        happened: count > 0,
+        count,
+        ..marking.records[0]
+    };
+    (table_image(&table), marking)
+}
+
+/// Three reports at the first counts and about the hold; and a marking of the
+/// old form, before no steps and before as many as make its length up.
+fn counted_inputs() -> Vec<Vec<u8>> {
+    let reports = [1, 0].repeat(3);
+    let of = |count: u32| {
+        let (table, marking) = counted(count);
+        [table, marking_image(&marking), reports.clone()].concat()
+    };
+    let counts = [0, 1, u32::MAX - 4, u32::MAX - 2, u32::MAX - 1, u32::MAX];
+    let mut inputs: Vec<Vec<u8>> = counts.into_iter().map(of).collect();
+    let (table, marking) = counted(1);
+    let old = [table, old_marking_image(&marking)].concat();
+    inputs.push(old.clone());
+    inputs.push([old, reports].concat());
+    inputs
+}
+
 /// The images and steps of so many bytes: reports, and a tick now and then.
 fn with_steps(images: &[u8], bytes: usize) -> Vec<u8> {
     let steps = (0..bytes).map(|place| match place / 2 % 5 {
@@ -94,10 +123,11 @@ fn with_steps(images: &[u8], bytes: usize) -> Vec<u8> {
 /// Inputs at the limits, the same in every run.
 pub fn edges() -> Vec<Vec<u8>> {
     let mut inputs = one_of_each();
+    inputs.extend(counted_inputs());
     for (events, count) in [(1, 0), (5, 20), (64, 256)] {
         let images = images(events, count);
         // Every end within the header, and around the ends of table and marking.
-        let table = images.len() - 8 * events;
+        let table = images.len() - RECORD_BYTES * events;
         let ends = [table - 1, table, table + 1, images.len() - 1, images.len()];
         inputs.extend(ends.map(|end| images[..end].to_vec()));
         inputs.extend((0..4).map(|end| images[..end].to_vec()));
@@ -127,11 +157,25 @@ mod tests {
     }
 
     #[test]
+    fn a_count_is_held_over_the_reports_of_an_input() {
+        let ends: Vec<Vec<u8>> = counted_inputs().iter().map(|i| station(i)).collect();
+        let counts = [3, 4, u32::MAX - 1, u32::MAX, u32::MAX, u32::MAX];
+        for (end, count) in ends.iter().zip(counts) {
+            let record = [[0x80, 0, 0, 1], [0; 4], count.to_be_bytes()].concat();
+            assert_eq!(*end, [&[0; 3][..], &record].concat());
+        }
+        // Too short; then the steps stand where a count would.
+        assert_eq!(ends[6], [1]);
+        assert_eq!(ends[7][0], 0);
+        assert_eq!(ends[7][9..], [1, 0, 1, 1]);
+    }
+
+    #[test]
     fn a_full_input_is_granted_and_one_step_more_is_not() {
         let images = images(64, 256);
         let full = with_steps(&images, 2 * LONGEST_TRACE);
-        assert_eq!(full.len(), 10_308);
-        assert_eq!(station(&full).len(), LONGEST_TRACE + 8 * 64);
+        assert_eq!(full.len(), 10_564);
+        assert_eq!(station(&full).len(), 4_864);
         assert_eq!(station(&[&full[..], &[0, 0]].concat()), [14]);
         assert_eq!(station(&[&full[..], &[0]].concat()), [1]);
     }

@@ -1,6 +1,8 @@
 //! What a case has in it, so that a run can show that it went where a guarded
 //! tick has much to do. Nothing is compared here.
 
+mod counted;
+
 use second::case::{Answer, Case, Pair};
 use second::{
     check, due, guarded_tick, judge_table, HoldUpAnswer, MarginAnswer, Record, Relation, Table,
@@ -178,8 +180,19 @@ fn of_written(table: &Table, buffer: &[u8]) -> Vec<&'static str> {
 
 /// The words for what is in the case and its answer.
 pub fn of(case: &Case, answer: &Answer) -> Vec<&'static str> {
-    if let Case::WriteTable { table, buffer } = case {
-        return of_written(table, buffer);
+    match case {
+        Case::WriteTable { table, buffer } => return of_written(table, buffer),
+        Case::CarryMarking {
+            events,
+            old,
+            buffer,
+        } => return counted::of_carried(*events, old, buffer, answer.number()),
+        Case::JudgeMarking { marking, .. } | Case::WriteMarking { marking, .. }
+            if answer.number() == 7 =>
+        {
+            return counted::of_refused(marking)
+        }
+        _ => {}
     }
     let Some(pair) = case.pair() else {
         return Vec::new();
@@ -190,6 +203,10 @@ pub fn of(case: &Case, answer: &Answer) -> Vec<&'static str> {
         (_, Answer::HoldUp(hold_up)) => vec![of_hold_up(hold_up)],
         _ => Vec::new(),
     };
+    shapes.extend(counted::of_executed(case, answer, pair));
+    if answer.number() == 7 {
+        shapes.extend(counted::of_refused(&pair.marking));
+    }
     if past_an_image(pair) {
         shapes.push("past an image");
     }

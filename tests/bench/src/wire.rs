@@ -39,6 +39,7 @@ fn put_record(out: &mut Vec<u8>, record: &Record) {
     out.push(u8::from(record.included));
     out.push(u8::from(record.pending));
     out.push(u8::from(record.bounded));
+    out.extend(record.count.to_le_bytes());
 }
 
 fn put_marking(out: &mut Vec<u8>, marking: &Marking) {
@@ -133,6 +134,15 @@ pub fn payload(case: &Case) -> Vec<u8> {
         Case::Station { input } => out.extend(input),
         Case::WriteTable { table, buffer } => {
             put_table(&mut out, table);
+            out.extend(buffer);
+        }
+        Case::CarryMarking {
+            events,
+            old,
+            buffer,
+        } => {
+            put_number(&mut out, *events);
+            put_list(&mut out, old);
             out.extend(buffer);
         }
         // The calls for C have a form of their own, in `boundary`.
@@ -256,7 +266,37 @@ mod tests {
         assert_eq!(table.len(), 2080);
         let mut marking = Vec::new();
         put_marking(&mut marking, &Marking::EMPTY);
-        assert_eq!(marking.len(), 776);
+        assert_eq!(marking.len(), 1032);
+    }
+
+    #[test]
+    fn a_record_ends_with_its_count() {
+        let mut out = Vec::new();
+        let record = Record {
+            age: 1,
+            deadline: 2,
+            happened: true,
+            included: false,
+            pending: true,
+            bounded: false,
+            count: 0x0102_0304,
+        };
+        put_record(&mut out, &record);
+        assert_eq!(out, [1, 0, 0, 0, 2, 0, 0, 0, 1, 0, 1, 0, 4, 3, 2, 1]);
+    }
+
+    #[test]
+    fn a_carry_over_has_the_old_image_behind_its_length() {
+        let case = Case::CarryMarking {
+            events: 1,
+            old: vec![0x80, 0, 0, 1, 0, 0, 0, 0],
+            buffer: vec![7; 13],
+        };
+        let payload = payload(&case);
+        assert_eq!(payload[..12], [1, 0, 0, 0, 0, 0, 0, 0, 8, 0, 0x80, 0]);
+        assert_eq!(payload[18..], [7; 13]);
+        let answered = answer(&case, &case.answer());
+        assert_eq!(answered, [0, 0x80, 0, 0, 1, 0, 0, 0, 0, 0, 0, 0, 1, 7]);
     }
 
     #[test]

@@ -2,6 +2,9 @@
 
 pub const TIME_LIMIT: u32 = 1_000_000_000;
 
+/// The bytes of a record in a marking's image.
+pub(crate) const RECORD_BYTES: usize = 12;
+
 #[derive(Clone, Copy, PartialEq, Eq, Debug)]
 pub struct Relation {
     pub kind: u8,
@@ -60,6 +63,8 @@ pub struct Record {
     pub included: bool,
     pub pending: bool,
     pub bounded: bool,
+    /// How often the event was executed, held at the largest number.
+    pub count: u32,
 }
 
 impl Record {
@@ -70,6 +75,7 @@ impl Record {
         included: false,
         pending: false,
         bounded: false,
+        count: 0,
     };
 }
 

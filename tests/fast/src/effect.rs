@@ -14,6 +14,7 @@ pub(crate) fn execute<'a>(
 ) {
     let r = m.of_mut(event);
     r.happened = true;
+    r.count = r.count.saturating_add(1);
     r.age = 0;
     r.pending = false;
     r.bounded = false;

@@ -1,6 +1,6 @@
 //! Images in and out: a field is a shift of the word that holds it.
 
-use crate::decoded::{Marking, Record, Relation, Table};
+use crate::decoded::{Marking, Record, Relation, Table, RECORD_BYTES};
 use crate::judge::{judge_table, marking_number, record_fits, relation_number};
 
 const TICKS: u64 = (1 << 30) - 1;
@@ -100,9 +100,16 @@ pub fn write_table(t: &Table, buffer: &mut [u8]) -> u8 {
     0
 }
 
-fn record_of(bytes: &[u8]) -> Record {
-    let high = u32::from_be_bytes([bytes[0], bytes[1], bytes[2], bytes[3]]);
-    let low = u32::from_be_bytes([bytes[4], bytes[5], bytes[6], bytes[7]]);
+/// Four bytes as a number, the highest first.
+#[inline]
+fn number_of(bytes: &[u8]) -> u32 {
+    u32::from_be_bytes([bytes[0], bytes[1], bytes[2], bytes[3]])
+}
+
+/// The record whose first bytes these are, beside its count.
+#[inline]
+pub(crate) fn state_of(bytes: &[u8], count: u32) -> Record {
+    let (high, low) = (number_of(&bytes[..4]), number_of(&bytes[4..8]));
     Record {
         age: high >> 1 & TICKS as u32,
         deadline: low & TICKS as u32,
@@ -110,7 +117,13 @@ fn record_of(bytes: &[u8]) -> Record {
         included: high & 1 == 1,
         pending: low >> 31 == 1,
         bounded: low >> 30 & 1 == 1,
+        count,
     }
+}
+
+#[inline]
+fn record_of(bytes: &[u8]) -> Record {
+    state_of(bytes, number_of(&bytes[8..]))
 }
 
 /// The marking of an image; empty where it is refused.
@@ -119,10 +132,10 @@ pub fn read_marking(events: usize, image: &[u8], m: &mut Marking) -> u8 {
     if !(1..=64).contains(&events) {
         return 3;
     }
-    if image.len() != 8 * events {
+    if image.len() != RECORD_BYTES * events {
         return 1;
     }
-    for (bytes, place) in image.chunks_exact(8).zip(&mut m.records) {
+    for (bytes, place) in image.chunks_exact(RECORD_BYTES).zip(&mut m.records) {
         let record = record_of(bytes);
         if !record_fits(&record) {
             *m = Marking::EMPTY;
@@ -139,13 +152,16 @@ pub fn write_marking(m: &Marking, buffer: &mut [u8]) -> u8 {
         0 => {}
         number => return number,
     }
-    if buffer.len() < 8 * m.events {
+    if buffer.len() < RECORD_BYTES * m.events {
         return 14;
     }
-    for (r, bytes) in m.used().iter().zip(buffer.chunks_exact_mut(8)) {
+    let places = buffer.chunks_exact_mut(RECORD_BYTES);
+    for (r, bytes) in m.used().iter().zip(places) {
         let high = u32::from(r.happened) << 31 | r.age << 1 | u32::from(r.included);
         let low = u32::from(r.pending) << 31 | u32::from(r.bounded) << 30 | r.deadline;
-        bytes.copy_from_slice(&(u64::from(high) << 32 | u64::from(low)).to_be_bytes());
+        let (state, count) = bytes.split_at_mut(8);
+        state.copy_from_slice(&(u64::from(high) << 32 | u64::from(low)).to_be_bytes());
+        count.copy_from_slice(&r.count.to_be_bytes());
     }
     0
 }

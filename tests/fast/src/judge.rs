@@ -27,7 +27,10 @@ pub(crate) fn relation_number(events: usize, k: &Relation) -> u8 {
 pub(crate) fn record_fits(r: &Record) -> bool {
     let oldest = if r.happened { TIME_LIMIT } else { 0 };
     let latest = if r.bounded { TIME_LIMIT } else { 0 };
-    r.age <= oldest && r.deadline <= latest && (r.pending || !r.bounded)
+    r.age <= oldest
+        && r.deadline <= latest
+        && (r.pending || !r.bounded)
+        && r.happened == (r.count > 0)
 }
 
 pub fn judge_table(t: &Table) -> u8 {

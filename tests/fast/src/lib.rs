@@ -8,6 +8,7 @@
 #![forbid(unsafe_code)]
 
 mod ask;
+mod carry;
 mod check;
 mod decoded;
 mod effect;
@@ -24,6 +25,7 @@ mod time;
 mod trace;
 
 pub use ask::{report, request};
+pub use carry::carry_marking;
 pub use check::{check, closure, Closure, Verdict};
 pub use decoded::{Marking, Record, Relation, Table};
 pub use enabled::{enabled, hold_up, margin, HoldUp, Margin};

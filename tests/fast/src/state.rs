@@ -20,6 +20,7 @@ pub(crate) struct State {
     since: [u32; 64],
     /// When a bounded event's deadline is 0.
     until: [u32; 64],
+    counts: [u32; 64],
 }
 
 impl State {
@@ -35,6 +36,7 @@ impl State {
             wake: 0,
             since: [0; 64],
             until: [0; 64],
+            counts: [0; 64],
         };
         for (event, r) in m.used().iter().enumerate() {
             state.happened |= u64::from(r.happened) << event;
@@ -43,6 +45,7 @@ impl State {
             state.bounded |= u64::from(r.bounded) << event;
             state.since[event] = state.now - r.age;
             state.until[event] = state.now + r.deadline;
+            state.counts[event] = r.count;
         }
         state.look();
         state
@@ -60,6 +63,7 @@ impl State {
             r.age = if r.happened { age } else { 0 };
             let left = self.until[event].saturating_sub(self.now);
             r.deadline = if r.bounded { left } else { 0 };
+            r.count = self.counts[event];
         }
     }
 
@@ -100,7 +104,9 @@ impl State {
     pub fn execute(&mut self, p: &Process, event: u8) {
         let (leads, own) = (p.leads(event), only(event));
         self.happened |= own;
-        self.since[usize::from(event & 63)] = self.now;
+        let place = usize::from(event & 63);
+        self.since[place] = self.now;
+        self.counts[place] = self.counts[place].saturating_add(1);
         self.included = self.included & !leads.excludes | leads.includes;
         self.pending = self.pending & !own | leads.responses;
         self.bounded &= !(own | leads.responses);

@@ -38,6 +38,7 @@ macro_rules! as_the_others {
                     included: r.included,
                     pending: r.pending,
                     bounded: r.bounded,
+                    count: r.count,
                 }),
                 events: m.events,
             }
@@ -106,6 +107,7 @@ fn answer(case: &Case) -> Option<Answer> {
         included: true,
         pending: true,
         bounded: true,
+        count: 7,
     };
     let mut m = fast::Marking {
         records: [rubbish; 64],
@@ -148,6 +150,15 @@ fn answer(case: &Case) -> Option<Answer> {
         Case::WriteTable { table: t, buffer } => {
             let mut buffer = buffer.clone();
             let number = fast::write_table(&table(t), &mut buffer);
+            Answer::Written { number, buffer }
+        }
+        Case::CarryMarking {
+            events,
+            old,
+            buffer,
+        } => {
+            let mut buffer = buffer.clone();
+            let number = fast::carry_marking(*events, old, &mut buffer);
             Answer::Written { number, buffer }
         }
         Case::JudgeTable { table: t } => Answer::Number(fast::judge_table(&table(t))),
@@ -314,7 +325,7 @@ fn cases_at_the_limits_agree() {
             }
         }
     }
-    assert_eq!(asked.len(), 17);
+    assert_eq!(asked.len(), 20);
 }
 
 /// How often each number comes up among the answers to steps of one kind.

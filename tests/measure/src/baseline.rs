@@ -23,11 +23,14 @@ fn stirred(first: Record, sum: u64) -> Record {
     }
 }
 
+/// The count stands above the bits of a sum that decide what a call is handed, so
+/// the calls are those of a record without one.
 fn record_word(r: &Record) -> u64 {
     let times = taken(r.age.into(), r.deadline.into());
     let past = taken(r.happened.into(), r.included.into());
     let duty = taken(r.pending.into(), r.bounded.into());
-    taken(times, taken(past, duty))
+    let rest = taken(times, taken(past, duty));
+    rest % (1 << 32) + u64::from(r.count % (1 << 16)) * (1 << 16)
 }
 
 fn relation_word(k: &Relation) -> u64 {
@@ -119,6 +122,16 @@ impl Calls for Baseline {
         for _ in 0..times {
             m.records[0] = stirred(first, sum);
             sum = taken(sum, fast::write_marking(&m, buffer).into());
+        }
+        sum
+    }
+
+    fn carry_marking(&self, events: usize, old: &mut [u8], buffer: &mut [u8], times: usize) -> u64 {
+        let mut sum = 1;
+        for _ in 0..times {
+            old[3] = 1 + 2 * (sum % 128) as u8;
+            sum = taken(sum, fast::carry_marking(events, old, buffer).into());
+            sum = taken(sum, buffer[3].into());
         }
         sum
     }

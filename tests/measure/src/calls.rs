@@ -8,6 +8,8 @@ pub trait Calls {
     fn write_table(&self, table: &[u8], buffer: &mut [u8], times: usize) -> u64;
     fn read_marking(&self, events: usize, image: &mut [u8], times: usize) -> u64;
     fn write_marking(&self, events: usize, marking: &[u8], buffer: &mut [u8], times: usize) -> u64;
+    /// Of an image of the time before counts.
+    fn carry_marking(&self, events: usize, old: &mut [u8], buffer: &mut [u8], times: usize) -> u64;
     fn fresh(&self, times: usize) -> u64;
     fn judge_table(&self, table: &[u8], times: usize) -> u64;
     fn judge_marking(&self, events: usize, marking: &[u8], times: usize) -> u64;

@@ -3,7 +3,7 @@
 use crate::calls::Calls;
 use crate::sized::{self, Size};
 use second::case::{Case as Question, Pair};
-use second::generate::{marking_image, table_image};
+use second::generate::{marking_image, old_marking_image, table_image};
 use second::Step;
 
 pub const SIZES: [Size; 9] = [
@@ -32,6 +32,7 @@ pub struct Input {
     one_due: Vec<u8>,
     chain: Vec<u8>,
     two_due: Vec<u8>,
+    old: Vec<u8>,
     steps: Vec<u8>,
     buffer: Vec<u8>,
 }
@@ -46,6 +47,7 @@ impl Input {
             one_due: marking_image(&sized::one_due(size)),
             chain: marking_image(&sized::chain(size)),
             two_due: marking_image(&sized::two_due(size)),
+            old: old_marking_image(&sized::quiet(size)),
             steps: sized::steps(size, STEPS),
             buffer: vec![0; STEPS],
         }
@@ -86,7 +88,7 @@ pub struct Case {
     pub run: fn(&mut Input, &dyn Calls, usize) -> u64,
 }
 
-pub const CASES: [Case; 22] = [
+pub const CASES: [Case; 23] = [
     case("read_table", |i, side, n| side.read_table(&mut i.table, n)),
     case("write_table", |i, side, n| {
         side.write_table(&i.table, &mut i.buffer, n)
@@ -96,6 +98,9 @@ pub const CASES: [Case; 22] = [
     }),
     case("write_marking", |i, side, n| {
         side.write_marking(i.size.events, &i.quiet, &mut i.buffer, n)
+    }),
+    case("carry_marking", |i, side, n| {
+        side.carry_marking(i.size.events, &mut i.old, &mut i.buffer, n)
     }),
     case("fresh", |_, side, n| side.fresh(n)),
     case("judge_table", |i, side, n| side.judge_table(&i.table, n)),

@@ -16,6 +16,14 @@ extern "C" {
         bn: usize,
         times: usize,
     ) -> u64;
+    fn timing_carry_marking(
+        events: usize,
+        o: *mut u8,
+        on: usize,
+        b: *mut u8,
+        bn: usize,
+        times: usize,
+    ) -> u64;
     fn timing_fresh(times: usize) -> u64;
     fn timing_judge_table(t: *const u8, tn: usize, times: usize) -> u64;
     fn timing_judge_marking(events: usize, m: *const u8, mn: usize, times: usize) -> u64;
@@ -103,6 +111,11 @@ impl Calls for Proved {
     fn write_marking(&self, events: usize, m: &[u8], b: &mut [u8], times: usize) -> u64 {
         let (to, room) = (b.as_mut_ptr(), b.len());
         unsafe { timing_write_marking(events, m.as_ptr(), m.len(), to, room, times) }
+    }
+
+    fn carry_marking(&self, events: usize, o: &mut [u8], b: &mut [u8], times: usize) -> u64 {
+        let (to, room) = (b.as_mut_ptr(), b.len());
+        unsafe { timing_carry_marking(events, o.as_mut_ptr(), o.len(), to, room, times) }
     }
 
     fn fresh(&self, times: usize) -> u64 {

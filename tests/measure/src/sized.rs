@@ -76,9 +76,11 @@ fn marking(size: Size, happened: bool, deadline: u32) -> Marking {
     let mut marking = Marking::EMPTY;
     marking.events = size.events;
     for event in 0..size.events {
+        let happened = happened || event == 0;
         marking.records[event] = Record {
             included: true,
-            happened: happened || event == 0,
+            happened,
+            count: happened.into(),
             pending: event == 0,
             bounded: event == 0,
             deadline: if event == 0 { deadline } else { 0 },

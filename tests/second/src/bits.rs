@@ -78,8 +78,8 @@ mod tests {
 
     #[test]
     fn fields_of_every_width_come_back() {
-        for width in 1..=30u32 {
-            let largest = 2u32.pow(width) - 1;
+        for width in 1..=32u32 {
+            let largest = (2u64.pow(width) - 1) as u32;
             for value in [0, 1, largest / 3, largest - largest / 2, largest] {
                 let mut writer = BitWriter::new();
                 writer.put(5, 3);

@@ -3,11 +3,12 @@
 //! case when their answers are equal.
 
 use crate::{
-    build_table, check, closure, due, enabled, fresh, guarded_tick, hold_up, judge_marking,
-    judge_table, lowest, margin, plain_tick, read_marking, read_table, remedies, report, request,
-    run, run_bytes, size, station, tell_class, tell_relation, write_marking, write_table,
-    CheckAnswer, ClosureAnswer, EnabledAnswer, GuardedAnswer, HoldUpAnswer, MarginAnswer, Marking,
-    MarkingAnswer, ReadMarking, ReadTable, RemedyAnswer, SetAnswer, Step, Table,
+    build_table, carry_marking, check, closure, due, enabled, fresh, guarded_tick, hold_up,
+    judge_marking, judge_table, lowest, margin, plain_tick, read_marking, read_table, remedies,
+    report, request, run, run_bytes, size, station, tell_class, tell_relation, write_marking,
+    write_table, CheckAnswer, ClosureAnswer, EnabledAnswer, GuardedAnswer, HoldUpAnswer,
+    MarginAnswer, Marking, MarkingAnswer, ReadMarking, ReadTable, RemedyAnswer, SetAnswer, Step,
+    Table,
 };
 
 /// The table and marking that most calls are handed. They may be faulty.
@@ -119,6 +120,11 @@ pub enum Case {
         event: usize,
         place: u8,
     },
+    CarryMarking {
+        events: usize,
+        old: Vec<u8>,
+        buffer: Vec<u8>,
+    },
 }
 
 #[derive(Clone, PartialEq, Eq, Debug)]
@@ -179,7 +185,8 @@ impl Answer {
             Answer::Guarded(answer) => answer.number,
             Answer::Remedy(answer) => answer.number,
             Answer::Run { end, .. } => end.number,
-            // One record is 8 bytes, so a single byte can only be a refusal.
+            // A record has more bytes than one, so a single byte can only be a
+            // refusal.
             Answer::Station(output) => match output.as_slice() {
                 [number] => *number,
                 _ => 0,
@@ -217,6 +224,7 @@ impl Case {
             Case::BuildTable { .. } => "build_table",
             Case::TellRelation { .. } => "tell_relation",
             Case::TellClass { .. } => "tell_class",
+            Case::CarryMarking { .. } => "carry_marking",
         }
     }
 
@@ -248,7 +256,8 @@ impl Case {
             | Case::WriteTable { .. }
             | Case::BuildTable { .. }
             | Case::TellRelation { .. }
-            | Case::TellClass { .. } => None,
+            | Case::TellClass { .. }
+            | Case::CarryMarking { .. } => None,
         }
     }
 
@@ -357,6 +366,15 @@ impl Case {
                 let mut place = *place;
                 let number = tell_class(image, *event, &mut place);
                 Answer::ToldClass { number, place }
+            }
+            Case::CarryMarking {
+                events,
+                old,
+                buffer,
+            } => {
+                let mut buffer = buffer.clone();
+                let number = carry_marking(*events, old, &mut buffer);
+                Answer::Written { number, buffer }
             }
         }
     }

@@ -56,6 +56,7 @@ pub struct Record {
     pub included: bool,
     pub pending: bool,
     pub bounded: bool,
+    pub count: u32,
 }
 
 impl Record {
@@ -66,6 +67,7 @@ impl Record {
         included: false,
         pending: false,
         bounded: false,
+        count: 0,
     };
 }
 

@@ -1,13 +1,23 @@
 //! The effect of an event.
 
-use crate::process::{Deadline, Meaning, Process, State};
+use crate::process::{Deadline, Happened, Meaning, Process, State};
 use std::collections::BTreeMap;
+use std::num::NonZeroU32;
+
+/// Once more than before, this moment. The count is held at its largest value.
+fn once_more(before: Option<Happened>) -> Happened {
+    let count = match before {
+        None => NonZeroU32::MIN,
+        Some(before) => before.count.saturating_add(1),
+    };
+    Happened { age: 0, count }
+}
 
 pub fn effect(process: &Process, state: &State, event: usize) -> State {
     let mut after = state.clone();
 
     // Cleared before anything else, or a response to itself would be lost.
-    after.of[event].age = Some(0);
+    after.of[event].happened = Some(once_more(state.of[event].happened));
     after.of[event].pending = None;
 
     // Exclusions before inclusions, so that inclusion wins.

@@ -19,7 +19,7 @@ pub fn blocks(link: &Link, state: &State) -> bool {
         return false;
     }
     match link.meaning {
-        Meaning::Condition { time } => match right.age {
+        Meaning::Condition { time } => match right.age() {
             None => true,
             Some(age) => age < time,
         },

@@ -1,11 +1,13 @@
 //! Random cases, one function for each call. Sound and damaged values are
 //! mixed so that every refusal number and every reason of the check comes up.
 
+mod carrying;
 mod damage;
 mod plain_numbers;
 mod shape;
 
 pub use crate::writing::{marking_image, table_image};
+pub use carrying::{carry_marking_case, old_marking_image};
 pub use plain_numbers::{build_table_case, tell_class_case, tell_relation_case};
 pub use shape::relation;
 
@@ -13,24 +15,28 @@ use crate::case::{Case, Pair};
 use crate::decoded::{Marking, Table, MOST_EVENTS, MOST_RELATIONS};
 use crate::event_set::from_word;
 use crate::guarded::guarded_tick;
+use crate::image::RECORD_BYTES;
 use crate::rng::Rng;
 use crate::trace::{Step, LONGEST_TRACE};
 
 type Question = fn(&mut Rng) -> Case;
 
 /// The calls with the most behaviour are listed twice, to be asked more often.
-const QUESTIONS: [Question; 32] = [
+const QUESTIONS: [Question; 37] = [
     read_table_case,
     read_marking_case,
     write_marking_case,
     fresh_case,
     judge_table_case,
     judge_marking_case,
+    judge_marking_case,
     size_case,
     lowest_case,
     enabled_case,
     due_case,
     request_case,
+    request_case,
+    report_case,
     report_case,
     plain_tick_case,
     margin_case,
@@ -52,6 +58,8 @@ const QUESTIONS: [Question; 32] = [
     build_table_case,
     tell_relation_case,
     tell_class_case,
+    carry_marking_case,
+    carry_marking_case,
 ];
 
 /// A case of any call.
@@ -334,8 +342,13 @@ pub fn write_marking_case(rng: &mut Rng) -> Case {
     if rng.chance(40) {
         damage::damage_marking(rng, &mut marking);
     }
-    let buffer = some_buffer(rng, 8 * marking.events.min(70));
+    let buffer = some_buffer(rng, room_for_marking(marking.events));
     Case::WriteMarking { marking, buffer }
+}
+
+/// A marking image's length, and past the limit of the count room enough.
+fn room_for_marking(events: usize) -> usize {
+    RECORD_BYTES * events.min(MOST_EVENTS + 6)
 }
 
 /// A table image's length at these counts. The counts may be any: past their

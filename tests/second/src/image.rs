@@ -8,7 +8,7 @@ use crate::refusal::{DONE, LENGTH, SPARE_BIT};
 
 const HEADER_BYTES: usize = 4;
 const RELATION_BYTES: usize = 6;
-pub const RECORD_BYTES: usize = 8;
+pub const RECORD_BYTES: usize = 12;
 
 struct Header {
     events: usize,
@@ -93,6 +93,26 @@ fn decode_table(bytes: &[u8]) -> Result<Table, u8> {
     Ok(table)
 }
 
+/// All but the count, which old records did not have. Fields are taken in the
+/// order of the image, which is not the order in which the record declares them.
+pub fn take_fields_of_old(cursor: &mut BitReader) -> Record {
+    let happened = cursor.take_flag();
+    let age = cursor.take(30);
+    let included = cursor.take_flag();
+    let pending = cursor.take_flag();
+    let bounded = cursor.take_flag();
+    let deadline = cursor.take(30);
+    Record {
+        age,
+        deadline,
+        happened,
+        included,
+        pending,
+        bounded,
+        count: 0,
+    }
+}
+
 fn decode_marking(events: usize, bytes: &[u8]) -> Result<Marking, u8> {
     judge_event_count(events)?;
     if bytes.len() != RECORD_BYTES * events {
@@ -102,22 +122,8 @@ fn decode_marking(events: usize, bytes: &[u8]) -> Result<Marking, u8> {
     let mut marking = Marking::EMPTY;
     marking.events = events;
     for place in marking.records.iter_mut().take(events) {
-        // Fields are taken in the order of the image, which is not the order
-        // in which the record declares them.
-        let happened = cursor.take_flag();
-        let age = cursor.take(30);
-        let included = cursor.take_flag();
-        let pending = cursor.take_flag();
-        let bounded = cursor.take_flag();
-        let deadline = cursor.take(30);
-        let record = Record {
-            age,
-            deadline,
-            happened,
-            included,
-            pending,
-            bounded,
-        };
+        let mut record = take_fields_of_old(&mut cursor);
+        record.count = cursor.take(32);
         understand_record(&record)?;
         *place = record;
     }

@@ -3,8 +3,9 @@
 
 use crate::decoded::{Marking, Record, Relation, Table, MOST_EVENTS, MOST_RELATIONS, TIME_LIMIT};
 use crate::event_set;
-use crate::process::{Deadline, EventState, Link, Meaning, Process, State};
+use crate::process::{Deadline, EventState, Happened, Link, Meaning, Process, State};
 use crate::refusal::{BOUNDED_AND_TIME, COUNTS, DONE, KIND, LEFT_OR_RIGHT, LENGTH, RECORD};
+use std::num::NonZeroU32;
 
 /// The refusal of a result, `DONE` if there is none.
 fn number_of<T>(result: Result<T, u8>) -> u8 {
@@ -57,9 +58,11 @@ pub fn understand_relation(events: usize, relation: &Relation) -> Result<Link, u
 }
 
 pub fn understand_record(record: &Record) -> Result<EventState, u8> {
-    let age = match (record.happened, record.age) {
-        (false, 0) => None,
-        (true, age @ 0..=TIME_LIMIT) => Some(age),
+    // No count means never, so only an event that has happened has one.
+    let count = NonZeroU32::new(record.count);
+    let happened = match (record.happened, record.age, count) {
+        (false, 0, None) => None,
+        (true, age @ 0..=TIME_LIMIT, Some(count)) => Some(Happened { age, count }),
         _ => return Err(RECORD),
     };
     let pending = match (record.pending, record.bounded, record.deadline) {
@@ -69,7 +72,7 @@ pub fn understand_record(record: &Record) -> Result<EventState, u8> {
         _ => return Err(RECORD),
     };
     Ok(EventState {
-        age,
+        happened,
         included: record.included,
         pending,
     })

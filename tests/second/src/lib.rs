@@ -5,6 +5,7 @@
 
 mod ask;
 mod bits;
+mod carrying;
 mod check;
 mod closure;
 mod decoded;
@@ -32,6 +33,7 @@ pub mod generate;
 pub mod rng;
 
 pub use ask::{report, request};
+pub use carrying::{carry_marking, OLD_RECORD_BYTES};
 pub use check::{check, CheckAnswer};
 pub use closure::{closure, ClosureAnswer};
 pub use decoded::{
@@ -42,7 +44,7 @@ pub use event_set::{lowest, size};
 pub use fresh::fresh;
 pub use guarded::{guarded_tick, GuardedAnswer};
 pub use hold_up::{hold_up, HoldUpAnswer};
-pub use image::{read_marking, read_table};
+pub use image::{read_marking, read_table, RECORD_BYTES};
 pub use judge::{judge_marking, judge_table};
 pub use margin::{margin, MarginAnswer};
 pub use plain_numbers::{build_table, tell_class, tell_relation};

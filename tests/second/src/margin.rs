@@ -32,7 +32,7 @@ pub fn margin(table: &Table, marking: &Marking, relation: usize) -> MarginAnswer
     if !right.included {
         return MarginAnswer::Ignored;
     }
-    match right.age {
+    match right.age() {
         None => MarginAnswer::Never,
         // Both are at most 1,000,000,000, so neither the conversions nor the
         // difference can leave an i32.

@@ -3,6 +3,7 @@
 
 use crate::decoded::{Marking, Record};
 use crate::event_set::EventSet;
+use std::num::NonZeroU32;
 
 /// Declared in this order so that `Eventually` compares as the largest.
 #[derive(Clone, Copy, PartialEq, Eq, PartialOrd, Ord, Debug)]
@@ -62,16 +63,29 @@ impl Process {
     }
 }
 
+/// What there is of an event that has happened.
+#[derive(Clone, Copy, PartialEq, Eq, Debug)]
+pub struct Happened {
+    pub age: u32,
+    /// How often, held at the largest value.
+    pub count: NonZeroU32,
+}
+
 #[derive(Clone, Copy, PartialEq, Eq, Debug)]
 pub struct EventState {
     /// None: not happened.
-    pub age: Option<u32>,
+    pub happened: Option<Happened>,
     pub included: bool,
     /// None: not pending.
     pub pending: Option<Deadline>,
 }
 
 impl EventState {
+    /// None: not happened.
+    pub fn age(&self) -> Option<u32> {
+        self.happened.map(|happened| happened.age)
+    }
+
     pub fn is_due(&self) -> bool {
         self.included && self.pending == Some(Deadline::Within(0))
     }
@@ -83,9 +97,10 @@ impl EventState {
     fn record(&self) -> Record {
         let mut record = Record::EMPTY;
         record.included = self.included;
-        if let Some(age) = self.age {
+        if let Some(happened) = self.happened {
             record.happened = true;
-            record.age = age;
+            record.age = happened.age;
+            record.count = happened.count.get();
         }
         if let Some(deadline) = self.pending {
             record.pending = true;

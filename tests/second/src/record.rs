@@ -4,7 +4,7 @@ use crate::decoded::Record;
 use crate::image::{read_marking, read_table};
 use crate::refusal::{DOES_NOT_EXIST, DONE, TOO_LONG_OR_SHORT};
 
-const FIELDS: usize = 6;
+const FIELDS: usize = 7;
 
 /// In the order of the image, flags as 0 or 1.
 fn fields_of(record: &Record) -> [u32; FIELDS] {
@@ -15,10 +15,11 @@ fn fields_of(record: &Record) -> [u32; FIELDS] {
         u32::from(record.pending),
         u32::from(record.bounded),
         record.deadline,
+        record.count,
     ]
 }
 
-/// Writes to the first six places and leaves the later ones. The event is
+/// Writes to the first seven places and leaves the later ones. The event is
 /// judged before the room for its fields.
 pub fn record(table: &[u8], marking: &[u8], event: usize, fields: &mut [u32]) -> u8 {
     let read = read_table(table);

@@ -16,7 +16,9 @@ pub fn due_events(state: &State) -> EventSet {
 pub fn tick(state: &State) -> State {
     let mut after = state.clone();
     for event in &mut after.of {
-        event.age = event.age.map(|age| age.saturating_add(1).min(TIME_LIMIT));
+        if let Some(happened) = &mut event.happened {
+            happened.age = happened.age.saturating_add(1).min(TIME_LIMIT);
+        }
         if let Some(Deadline::Within(ticks)) = event.pending {
             event.pending = Some(Deadline::Within(ticks.saturating_sub(1)));
         }

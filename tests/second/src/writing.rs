@@ -27,13 +27,19 @@ fn put_relation(writer: &mut BitWriter, relation: &Relation) {
     writer.put(0, 2);
 }
 
-fn put_record(writer: &mut BitWriter, record: &Record) {
+/// All but the count, which old records did not have.
+pub fn put_fields_of_old(writer: &mut BitWriter, record: &Record) {
     writer.put_flag(record.happened);
     writer.put(record.age, 30);
     writer.put_flag(record.included);
     writer.put_flag(record.pending);
     writer.put_flag(record.bounded);
     writer.put(record.deadline, 30);
+}
+
+fn put_record(writer: &mut BitWriter, record: &Record) {
+    put_fields_of_old(writer, record);
+    writer.put(record.count, 32);
 }
 
 fn put_classes(writer: &mut BitWriter, table: &Table, events: usize) {
@@ -98,7 +104,7 @@ pub fn write_table(table: &Table, buffer: &mut [u8]) -> u8 {
     }
 }
 
-/// Writes to the first 8 × events bytes and leaves the later ones. Written
+/// Writes to the first 12 × events bytes and leaves the later ones. Written
 /// alone, the marking is judged against its own event count.
 pub fn write_marking(marking: &Marking, buffer: &mut [u8]) -> u8 {
     match judge_marking(marking.events, marking) {

@@ -1,5 +1,7 @@
 //! Many random cases: everything occurs, and what the rules' paper promises holds.
 
+mod carriers;
+mod counted;
 mod promises;
 
 use promises::{accepts, promise};
@@ -22,7 +24,7 @@ fn for_each_case(mut look_at: impl FnMut(&Case, &Answer)) {
 
 /// Every number that a call can give. Decoded values have no spare bits, so 2
 /// is for those that read table images or class bytes.
-const NUMBERS: [(&str, &[u8]); 26] = [
+const NUMBERS: [(&str, &[u8]); 27] = [
     ("read_table", &[0, 1, 2, 3, 4, 5, 6]),
     ("read_marking", &[0, 1, 3, 7]),
     ("write_marking", &[0, 3, 7, 14]),
@@ -49,6 +51,7 @@ const NUMBERS: [(&str, &[u8]); 26] = [
     ("build_table", &[0, 1, 2, 3, 4, 5, 6, 14]),
     ("tell_relation", &[0, 1, 2, 3, 4, 5, 6, 8, 14]),
     ("tell_class", &[0, 1, 2, 3, 4, 5, 6, 8]),
+    ("carry_marking", &[0, 1, 3, 7, 14]),
 ];
 
 /// What the trace runner can answer for a step.
@@ -71,7 +74,7 @@ fn step_answers<'a>(case: &Case, answer: &'a Answer) -> &'a [u8] {
         }
         (Case::Station { input }, Answer::Station(output)) if answer.number() == 0 => {
             let events = usize::from(input[0] / 2);
-            &output[..output.len() - 8 * events]
+            &output[..output.len() - RECORD_BYTES * events]
         }
         _ => &[],
     }

@@ -103,7 +103,7 @@ module _ (t : Table) (e clock : ℕ) (before : List ℕ) where
   pub record Answering (n seen : ℕ) (columns : List ℕ) : Type 0 where
     pub next : Next t 3 e n
     pub same-size : length columns ≡ length before
-    pub ages : (x : ℕ) → x < 64 → getD columns x 0 ≡ getD before x 0
+    pub elsewhere : (place : ℕ) → ((x : ℕ) → x < 64 → place ≡ 64 + x → ⊥) → getD columns place 0 ≡ getD before place 0
     pub deadlines : (x : ℕ) → x < 64
         → sooner clock (smallest t e x n) (has seen x) (getD columns (64 + x) 0) ≡ sooner clock (response t e x) false (getD before (64 + x) 0)
 
@@ -111,7 +111,7 @@ module _ (t : Table) (e clock : ℕ) (before : List ℕ) where
   unfolding smallest
   answering-end n seen columns w over = record {
     same-size = w .same-size;
-    ages = w .ages;
+    elsewhere = w .elsewhere;
     deadlines = λ x b. ap (λ (k : ℕ). sooner clock (smallest t e x k) (has seen x) (getD columns (64 + x) 0)) (sym over) ∙ w .deadlines x b;
   }
 
@@ -130,7 +130,7 @@ module _ (t : Table) (e clock : ℕ) (before : List ℕ) where
         rw whole (record {
           next = next-last t 3 e (t .count) (omega arith);
           same-size = refl;
-          ages = λ x b. refl;
+          elsewhere = λ place other. refl;
           deadlines = λ x b. rw (has-zero x) (sooner-last x false (getD before (64 + x) 0) (t .count) (omega arith));
         })
 
@@ -145,7 +145,7 @@ module _ (t : Table) (e clock : ℕ) (before : List ℕ) where
       pub answering-less : link % 512 < n
       answering-less = met-less t 3 e met
 
-      pub answering-more : length before ≡ 128
+      pub answering-more : length before ≡ 192
           → Answering (link % 512) (withEvent seen (link / 512 % 64))
           (set columns (64 + link / 512 % 64) (dateAfter clock (link / 512 % 64) (link / 32768 % 1073741824) seen columns))
       unfolding smallest
@@ -160,7 +160,7 @@ module _ (t : Table) (e clock : ℕ) (before : List ℕ) where
           rw (met .next, met .right, met .time) (record {
             next = next-last t 3 e k (omega arith);
             same-size = length-set columns (64 + right) date ∙ w .same-size;
-            ages = λ x b. getD-set-other columns (64 + right) x date 0 (λ q. absurd (omega (arith, b, q))) ∙ w .ages x b;
+            elsewhere = λ place other. getD-set-other columns (64 + right) place date 0 (other right small) ∙ w .elsewhere place other;
             deadlines = λ x b.
                 let old = getD columns (64 + x) 0 in
                 sooner-last x (has (withEvent seen right) x) (getD (set columns (64 + right) date) (64 + x) 0) k (omega arith)

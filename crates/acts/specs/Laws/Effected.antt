@@ -2,7 +2,7 @@
 use mathlib.Core.Path.{_≡_, refl, _∙_, ap, sym}
 use mathlib.Core.Bool.{Bool, true, false, not, cond, _&&_, _||_, and-true, or-true}
 use mathlib.Core.List.{List}
-use Prim.Native.Nat.{ℕ, _<_, _≤_, _+_, _-_}
+use Prim.Native.Nat.{ℕ, _<_, _≤_, _+_, _-_, min}
 use native.Mathlib.Decide.{ℕ-discrete}
 use native.Mathlib.Nat.{zero-add}
 use native.Mathlib.Omega.{arith}
@@ -14,7 +14,7 @@ use Rattle.rules.specs.declared.Table.{Table}
 use Rattle.rules.specs.declared.Record.{Record}
 use Rattle.rules.specs.declared.Marking.{Marking}
 use Rattle.rules.specs.EventSet.{has}
-use Rattle.rules.specs.Holds.{limit}
+use Rattle.rules.specs.Holds.{limit, countLimit}
 use Rattle.rules.specs.Effect.{Deadline, none, eventually, within, isPending, isBounded, ticksOf, response, includes, excludes, executed, withDeadline}
 use Rattle.rules.specs.Effect.{withInclusion, responded, effectAt, effect}
 use Rattle.rules.specs.Laws.Tests.{and-false, or-false}
@@ -36,10 +36,10 @@ included-by false out true = refl
 included-by false true false = refl
 included-by false false false = refl
 
--- A record by its fields: with its age and its ticks, if it has happened and if it is bounded.
-module _ (age ticks : ℕ) (h i p b : Bool) where
+-- A record by its fields: with its age and its ticks, if it has happened and if it is bounded, and its count.
+module _ (age ticks count : ℕ) (h i p b : Bool) where
   abbrev before : Record
-  before = record { age = cond h age 0; deadline = cond b ticks 0; happened = h; included = i; pending = p; bounded = b }
+  before = record { age = cond h age 0; deadline = cond b ticks 0; happened = h; included = i; pending = p; bounded = b; count = count }
 
   -- after e: by the deadline that e gives, and by whether it is e itself, is excluded, is included
   unfoldable fieldsAfter : Deadline → Bool → Bool → Bool → Record
@@ -50,6 +50,7 @@ module _ (age ticks : ℕ) (h i p b : Bool) where
     included = (i && not out) || put;
     pending = (p && not own) || isPending d;
     bounded = (b && not (isPending d || own)) || isBounded d;
+    count = cond own (min (count + 1) countLimit) count;
   }
 
   abbrev includedBy : Bool → Bool → Record → Record
@@ -60,6 +61,7 @@ module _ (age ticks : ℕ) (h i p b : Bool) where
     included = cond put true (cond out false (r .included));
     pending = r .pending;
     bounded = r .bounded;
+    count = r .count;
   }
 
   fields-are : (d : Deadline) (own out put : Bool) → fieldsAfter d own out put ≡ responded d (includedBy out put (cond own (executed before) before))
@@ -91,44 +93,67 @@ same-order e x =
       | no n ↦ ne-eqb e x n ∙ sym (ne-eqb x e (λ q. n (sym q)))
     ]
 
--- one place of a list
-stored : (l : List ℕ) (e x v : ℕ) → e < length l → getD (set l e v) x 0 ≡ cond (eqb e x) v (getD l x 0)
-stored l e x v b =
+-- one place of a column, which begins at `from`
+stored : (l : List ℕ) (from e x v : ℕ) (f : ℕ → ℕ) → from + e < length l → v ≡ f e
+    → getD (set l (from + e) v) (from + x) 0 ≡ cond (eqb e x) (f x) (getD l (from + x) 0)
+stored l from e x v f b is =
     elim (ℕ-discrete x e) [
-      | yes q ↦ rw (q, eq-eqb e e refl) (getD-set-same l e v 0 b)
-      | no n ↦ rw (ne-eqb e x (λ q. n (sym q))) (getD-set-other l e x v 0 n)
+      | yes q ↦ rw (q, eq-eqb e e refl) (getD-set-same l (from + e) v 0 b ∙ is)
+      | no n ↦ rw (ne-eqb e x (λ q. n (sym q))) (getD-set-other l (from + e) (from + x) v 0 (λ q. n (omega (arith, q))))
     ]
+
+-- the columns before the walk: e is counted, and then its age begins anew
+abbrev ownColumns : ℕ → ℕ → ℕ → List ℕ → List ℕ
+ownColumns clock e count columns = set (set columns (128 + e) count) (0 + e) (clock + limit)
 
 module _ (t : Table) (good : GoodTable t) (e : ℕ) (rows : List ℕ) (at : ℕ) (links : List ℕ) (own : Own t (t .count) e rows at links) (exists : e < t .events)
     (tail : List Record) (clock : ℕ) (sets columns : List ℕ) (m : Marking) (stands : Stands (t .events) tail clock sets columns m)
-    (happened included pending bounded : ℕ) (columns-after : List ℕ)
+    (happened included pending bounded count : ℕ) (columns-after : List ℕ)
     (happened-is : happened ≡ withEvent (getD sets 0 0) e)
     (included-is : (x : ℕ) → has included x ≡ includedAfter rows at (getD sets 1 0) x)
     (pending-is : (x : ℕ) → has pending x ≡ pendingAfter rows at (getD sets 2 0) e x)
     (bounded-is : (x : ℕ) → has bounded x ≡ boundedAfter rows at (getD sets 3 0) e x)
-    (answers : length (set columns (0 + e) (clock + limit)) ≡ 128 → Responded t e clock (set columns (0 + e) (clock + limit)) columns-after)
+    (count-is : count ≡ min (getD columns (128 + e) 0 + 1) countLimit)
+    (answers : length (ownColumns clock e count columns) ≡ 192 → Responded t e clock (ownColumns clock e count columns) columns-after)
   where
-    two-columns : length (set columns (0 + e) (clock + limit)) ≡ 128
-    two-columns = length-set columns (0 + e) (clock + limit) ∙ stands .two-columns
+    e-small : e < 64
+    e-small = omega (arith, stands .few)
 
-    answered : Responded t e clock (set columns (0 + e) (clock + limit)) columns-after
-    answered = answers two-columns
+    abbrev with-count : List ℕ
+    with-count = set columns (128 + e) count
+
+    counted-size : length with-count ≡ 192
+    counted-size = length-set columns (128 + e) count ∙ stands .three-columns
+
+    own-size : length (ownColumns clock e count columns) ≡ 192
+    own-size = length-set with-count (0 + e) (clock + limit) ∙ counted-size
+
+    answered : Responded t e clock (ownColumns clock e count columns) columns-after
+    answered = answers own-size
 
     abbrev sets-after : List ℕ
     sets-after = fourOf sets happened included pending bounded
 
-    -- e's age begins anew
     ages : (x : ℕ) → x < 64 → getD columns-after x 0 ≡ cond (eqb e x) (clock + limit) (getD columns x 0)
     ages x b =
-        answered .ages x b ∙ ap (λ (place : ℕ). getD (set columns place (clock + limit)) x 0) (zero-add e)
-        ∙ stored columns e x (clock + limit) (omega (arith, stands .two-columns, stands .few))
+        answered .elsewhere x (λ y l q. omega (arith, b, q))
+        ∙ ap (λ (place : ℕ). getD (set with-count place (clock + limit)) x 0) (zero-add e)
+        ∙ (simp zero-add at (stored with-count 0 e x (clock + limit) (λ y. clock + limit) (omega (arith, e-small, counted-size)) refl))
+        ∙ ap (cond (eqb e x) (clock + limit)) (getD-set-other columns (128 + e) x count 0 (λ q. omega (arith, b, q)))
+
+    counts : (x : ℕ) → x < 64 → getD columns-after (128 + x) 0 ≡ cond (eqb e x) (min (getD columns (128 + x) 0 + 1) countLimit) (getD columns (128 + x) 0)
+    counts x b =
+        answered .elsewhere (128 + x) (λ y l q. omega (arith, l, q))
+        ∙ getD-set-other with-count (0 + e) (128 + x) (clock + limit) 0 (λ q. omega (arith, e-small, q))
+        ∙ stored columns 128 e x count (λ y. min (getD columns (128 + y) 0 + 1) countLimit) (omega (arith, e-small, stands .three-columns)) count-is
 
     deadlines : (x : ℕ) → x < 64
         → getD columns-after (64 + x) 0 ≡ cond (isBounded (response t e x)) (clock + ticksOf (response t e x)) (getD columns (64 + x) 0)
     deadlines x b =
         answered .deadlines x b
         ∙ ap (cond (isBounded (response t e x)) (clock + ticksOf (response t e x)))
-        (getD-set-other columns (0 + e) (64 + x) (clock + limit) 0 (λ q. absurd (omega (arith, q, stands .few))))
+        (getD-set-other with-count (0 + e) (64 + x) (clock + limit) 0 (λ q. omega (arith, e-small, q))
+        ∙ getD-set-other columns (128 + e) (64 + x) count 0 (λ q. omega (arith, b, q)))
 
     record-is : (x : ℕ) → x < t .events → effectAt t e x (recordIn clock sets columns x) ≡ recordIn clock sets-after columns-after x
     unfolding effectAt withInclusion recordIn fieldsAfter
@@ -157,10 +182,11 @@ module _ (t : Table) (good : GoodTable t) (e : ℕ) (rows : List ℕ) (at : ℕ)
           ages x small,
           aged (eqb e x) clock (getD columns x 0),
           deadlines x small,
+          counts x small,
           left-to-go (isBounded d) clock (ticksOf d) (getD columns (64 + x) 0),
           same-order e x,
         )
-        (fields-are (ageAt clock columns x) (ticksAt clock columns x)
+        (fields-are (ageAt clock columns x) (ticksAt clock columns x) (getD columns (128 + x) 0)
         (has (getD sets 0 0) x) (has (getD sets 1 0) x) (has (getD sets 2 0) x) (has (getD sets 3 0) x)
         d (eqb x e) (excludes t e x) (includes t e x)))
 
@@ -169,6 +195,6 @@ module _ (t : Table) (good : GoodTable t) (e : ℕ) (rows : List ℕ) (at : ℕ)
     effect-stands =
         each-stands (t .events) tail clock sets columns m stands (effectAt t e) clock sets-after columns-after
         (four sets happened included pending bounded (stands .four-sets) .4)
-        (answered .same-size ∙ two-columns)
+        (answered .same-size ∙ own-size)
         (λ x b. rw (ages x (omega (arith, b, stands .few))) (begun (eqb e x) clock (getD columns x 0) (stands .ages-begun x b)))
         record-is

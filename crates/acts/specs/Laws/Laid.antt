@@ -17,22 +17,23 @@ use Rattle.rules.specs.declared.Table.{Table}
 use Rattle.rules.specs.Counting.{places, placesFrom}
 use Rattle.rules.specs.EventSet.{has}
 use Rattle.rules.specs.Holds.{limit, emptyRecord, recordOf}
-use Rattle.rules.specs.Judge.{recordFits}
+use Rattle.rules.specs.Judge.{stateFits}
 use Rattle.rules.specs.Laws.Tests.{both, and-false, or-false}
 use Rattle.rules.specs.Laws.Counting.{length-places, places-more}
+use Rattle.rules.specs.Laws.Fit.{fits-parts}
 use Rattle.rules.specs.Laws.EventSet.{has-zero}
 use Rattle.rules.specs.Shapes.Good.{GoodMarking, Good}
 use Rattle.acts.specs.Stands.{ageAt, ticksAt, recordIn, markingIn, Stands}
 use Rattle.acts.specs.Laws.Stands.{fourOf, four}
 
 -- a record is read when each of its fields is
-pub record-read : (clock : ℕ) (sets columns : List ℕ) (e age deadline : ℕ) (happened included pending bounded : Bool)
+pub record-read : (clock : ℕ) (sets columns : List ℕ) (e age deadline count : ℕ) (happened included pending bounded : Bool)
     → happened ≡ has (getD sets 0 0) e → included ≡ has (getD sets 1 0) e → pending ≡ has (getD sets 2 0) e → bounded ≡ has (getD sets 3 0) e
-    → age ≡ cond happened (ageAt clock columns e) 0 → deadline ≡ cond bounded (ticksAt clock columns e) 0
-    → record { age = age; deadline = deadline; happened = happened; included = included; pending = pending; bounded = bounded }
+    → age ≡ cond happened (ageAt clock columns e) 0 → deadline ≡ cond bounded (ticksAt clock columns e) 0 → count ≡ getD columns (128 + e) 0
+    → record { age = age; deadline = deadline; happened = happened; included = included; pending = pending; bounded = bounded; count = count }
     ≡ recordIn clock sets columns e
 unfolding recordIn
-record-read clock sets columns e age deadline happened included pending bounded h i p b a d = rw (a, d, h, i, p, b)
+record-read clock sets columns e age deadline count happened included pending bounded h i p b a d c = rw (a, d, h, i, p, b, c)
 
 -- the word has the events below n at which f holds
 abbrev pub Upto : (ℕ → Bool) → ℕ → ℕ → Type 0
@@ -53,59 +54,78 @@ upto-more f n w v old noted x = noted x ∙ ap (λ (b : Bool). b || (f n && eqb 
 
 -- laid as far as n
 pub record Laid (m : Marking) (n happened included pending bounded : ℕ) (columns : List ℕ) : Type 0 where
-  pub two-columns : length columns ≡ 128
+  pub three-columns : length columns ≡ 192
   pub happened-laid : Upto (λ x. recordOf m x .happened) n happened
   pub included-laid : Upto (λ x. recordOf m x .included) n included
   pub pending-laid : Upto (λ x. recordOf m x .pending) n pending
   pub bounded-laid : Upto (λ x. recordOf m x .bounded) n bounded
   pub ages-laid : (x : ℕ) → x < n → getD columns x 0 ≡ limit - recordOf m x .age
   pub deadlines-laid : (x : ℕ) → x < n → getD columns (64 + x) 0 ≡ recordOf m x .deadline
+  pub counts-laid : (x : ℕ) → x < n → getD columns (128 + x) 0 ≡ recordOf m x .count
 
-pub laid-none : (m : Marking) (columns : List ℕ) → length columns ≡ 128 → Laid m 0 0 0 0 0 columns
+pub laid-none : (m : Marking) (columns : List ℕ) → length columns ≡ 192 → Laid m 0 0 0 0 0 columns
 laid-none m columns size = record {
-  two-columns = size;
+  three-columns = size;
   happened-laid = upto-none _;
   included-laid = upto-none _;
   pending-laid = upto-none _;
   bounded-laid = upto-none _;
   ages-laid = λ x b. absurd (omega arith);
   deadlines-laid = λ x b. absurd (omega arith);
+  counts-laid = λ x b. absurd (omega arith);
 }
+
+-- a column that holds what it should at its first n places, with one place more stored
+column-more : (l : List ℕ) (from n v : ℕ) (f : ℕ → ℕ) → from + n < length l → v ≡ f n → ((x : ℕ) → x < n → getD l (from + x) 0 ≡ f x)
+    → (x : ℕ) → x < n + 1 → getD (set l (from + n) v) (from + x) 0 ≡ f x
+column-more l from n v f fits is old x b =
+    elim (ℕ-discrete x n) [
+      | yes q ↦ rw q (getD-set-same l (from + n) v 0 fits ∙ is)
+      | no ne ↦ getD-set-other l (from + n) (from + x) v 0 (λ q. ne (omega (arith, q))) ∙ old x (omega (arith, b, ne))
+    ]
 
 -- one event more
 module _ (m : Marking) (n : ℕ) (small : n < 64) (columns : List ℕ) (full : ℕ) (age : full ≡ limit - recordOf m n .age) where
-  abbrev columnsAfter : List ℕ
-  columnsAfter = set (set columns n full) (64 + n) (recordOf m n .deadline)
+  abbrev with-age : List ℕ
+  with-age = set columns n full
+
+  abbrev with-deadline : List ℕ
+  with-deadline = set with-age (64 + n) (recordOf m n .deadline)
 
   pub laid-more : (h i p b : ℕ) {h2 i2 p2 b2 : ℕ} → Laid m n h i p b columns
       → ((y : ℕ) → has h2 y ≡ (has h y || (recordOf m n .happened && eqb n y)))
       → ((y : ℕ) → has i2 y ≡ (has i y || (recordOf m n .included && eqb n y)))
       → ((y : ℕ) → has p2 y ≡ (has p y || (recordOf m n .pending && eqb n y)))
       → ((y : ℕ) → has b2 y ≡ (has b y || (recordOf m n .bounded && eqb n y)))
-      → Laid m (n + 1) h2 i2 p2 b2 columnsAfter
+      → Laid m (n + 1) h2 i2 p2 b2 (set with-deadline (128 + n) (recordOf m n .count))
   laid-more h i p b old nh ni np nb = record {
-    two-columns = length-set (set columns n full) (64 + n) _ ∙ size;
+    three-columns = length-set with-deadline (128 + n) _ ∙ deadline-size;
     happened-laid = upto-more _ n h _ (old .happened-laid) nh;
     included-laid = upto-more _ n i _ (old .included-laid) ni;
     pending-laid = upto-more _ n p _ (old .pending-laid) np;
     bounded-laid = upto-more _ n b _ (old .bounded-laid) nb;
-    ages-laid = λ x l. getD-set-other (set columns n full) (64 + n) x _ 0 (λ q. omega (arith, l, q)) ∙ at-age x l (ℕ-discrete x n);
-    deadlines-laid = λ x l. at-deadline x l (ℕ-discrete x n);
+    ages-laid = λ x l.
+        getD-set-other with-deadline (128 + n) x _ 0 (λ q. omega (arith, l, small, q))
+        ∙ getD-set-other with-age (64 + n) x _ 0 (λ q. omega (arith, l, small, q))
+        ∙ (simp zero-add at (column-more columns 0 n full (λ y. limit - recordOf m y .age) (omega (arith, small, old .three-columns)) age
+        (λ y b. ap (λ (place : ℕ). getD columns place 0) (zero-add y) ∙ old .ages-laid y b) x l));
+    deadlines-laid = λ x l.
+        getD-set-other with-deadline (128 + n) (64 + x) _ 0 (λ q. omega (arith, l, small, q))
+        ∙ column-more with-age 64 n _ (λ y. recordOf m y .deadline) (omega (arith, small, age-size)) refl
+        (λ y b. getD-set-other columns n (64 + y) full 0 (λ q. omega (arith, small, q)) ∙ old .deadlines-laid y b) x l;
+    counts-laid =
+        column-more with-deadline 128 n _ (λ y. recordOf m y .count) (omega (arith, small, deadline-size)) refl
+        (λ y b.
+        getD-set-other with-age (64 + n) (128 + y) _ 0 (λ q. omega (arith, small, q))
+        ∙ getD-set-other columns n (128 + y) full 0 (λ q. omega (arith, small, q))
+        ∙ old .counts-laid y b);
   }
     where
-      size : length (set columns n full) ≡ 128
-      size = length-set columns n full ∙ old .two-columns
+      age-size : length with-age ≡ 192
+      age-size = length-set columns n full ∙ old .three-columns
 
-      at-age : (x : ℕ) → x < n + 1 → Dec (x ≡ n) → getD (set columns n full) x 0 ≡ limit - recordOf m x .age
-      at-age x l (yes q) = rw q (getD-set-same columns n full 0 (omega (arith, old .two-columns)) ∙ age)
-      at-age x l (no ne) = getD-set-other columns n x full 0 ne ∙ old .ages-laid x (omega (arith, ne))
-
-      at-deadline : (x : ℕ) → x < n + 1 → Dec (x ≡ n) → getD columnsAfter (64 + x) 0 ≡ recordOf m x .deadline
-      at-deadline x l (yes q) = rw q (getD-set-same (set columns n full) (64 + n) _ 0 (omega (arith, size)))
-      at-deadline x l (no ne) =
-          getD-set-other (set columns n full) (64 + n) (64 + x) _ 0 (λ q. ne (omega (arith, q)))
-          ∙ getD-set-other columns n (64 + x) full 0 (λ q. omega (arith, q))
-          ∙ old .deadlines-laid x (omega (arith, ne))
+      deadline-size : length with-deadline ≡ 192
+      deadline-size = length-set with-age (64 + n) _ ∙ age-size
 
 -- the first n places of a list, by what they hold, and the rest of it
 pub places-drop : {A : Type 0} (d : A) (f : ℕ → A) (n : ℕ) (l : List A) → n ≤ length l → ((x : ℕ) → x < n → getD l x d ≡ f x) → places n f ++ drop n l ≡ l
@@ -136,26 +156,27 @@ module _ (m : Marking) (few : m .events ≤ 64) (size : length (m .records) ≡ 
     member w f made x l = sym (made x ∙ rw (lt-ltb x (m .events) l))
 
     back : (x : ℕ) → x < m .events → recordOf m x ≡ recordIn 0 (fourOf sets h i p b) columns x
-    unfolding recordFits
+    unfolding stateFits
     back x l =
         let r = recordOf m x in
         let f = four sets h i p b four-sets in
-        let fits = both (leb (r .age) (cond (r .happened) limit 0)) _ (judged .records-fit x l) in
+        let fits = both (leb (r .age) (cond (r .happened) limit 0)) _ (fits-parts r (judged .records-fit x l) .0) in
         let ticks = both (cond (r .pending) true (not (r .bounded))) _ (fits .1) .1 in
-        record-read 0 (fourOf sets h i p b) columns x (r .age) (r .deadline) (r .happened) (r .included) (r .pending) (r .bounded)
+        record-read 0 (fourOf sets h i p b) columns x (r .age) (r .deadline) (r .count) (r .happened) (r .included) (r .pending) (r .bounded)
         (member h _ (laid .happened-laid) x l ∙ ap (λ (w : ℕ). has w x) (sym (f .0)))
         (member i _ (laid .included-laid) x l ∙ ap (λ (w : ℕ). has w x) (sym (f .1)))
         (member p _ (laid .pending-laid) x l ∙ ap (λ (w : ℕ). has w x) (sym (f .2)))
         (member b _ (laid .bounded-laid) x l ∙ ap (λ (w : ℕ). has w x) (sym (f .3)))
         (age-back (r .happened) (r .age) _ (leb-true _ _ (fits .0)) (laid .ages-laid x l))
         (ticks-back (r .bounded) (r .deadline) _ (leb-true _ _ ticks) (laid .deadlines-laid x l))
+        (sym (laid .counts-laid x l))
 
     pub laid-stands : Stands (m .events) (drop (m .events) (m .records)) 0 (fourOf sets h i p b) columns m
     unfolding markingIn
     laid-stands = record {
       few = few;
       four-sets = four sets h i p b four-sets .4;
-      two-columns = laid .two-columns;
+      three-columns = laid .three-columns;
       ages-begun = λ x l. omega (arith, laid .ages-laid x l);
       is = ap {B = Marking} (λ rs. record { records = rs; events = m .events }) (sym (places-drop emptyRecord _ (m .events) (m .records) (omega arith) back));
     }

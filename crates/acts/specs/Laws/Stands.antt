@@ -48,15 +48,15 @@ module _ (n : ℕ) (tail : List Record) (clock : ℕ) (sets columns : List ℕ) 
       ∙ places-at (recordIn clock sets columns) n x emptyRecord b
 
   -- a change of each record, and words that have the changed records
-  pub each-stands : (f : ℕ → Record → Record) (clock2 : ℕ) (sets2 columns2 : List ℕ) → length sets2 ≡ 4 → length columns2 ≡ 128
+  pub each-stands : (f : ℕ → Record → Record) (clock2 : ℕ) (sets2 columns2 : List ℕ) → length sets2 ≡ 4 → length columns2 ≡ 192
       → ((x : ℕ) → x < n → getD columns2 x 0 ≤ clock2 + limit)
       → ((x : ℕ) → x < n → f x (recordIn clock sets columns x) ≡ recordIn clock2 sets2 columns2 x)
       → Stands n tail clock2 sets2 columns2 (withRecords m (eachBelow (m .events) f (m .records)))
   unfolding markingIn
-  each-stands f clock2 sets2 columns2 four two begun made = record {
+  each-stands f clock2 sets2 columns2 four three begun made = record {
     few = stands .few;
     four-sets = four;
-    two-columns = two;
+    three-columns = three;
     ages-begun = begun;
     is =
         rw (stands-events, stands-records)
@@ -97,7 +97,8 @@ later-at clock sets columns x begun =
     let included = has (getD sets 1 0) x in
     let pending = has (getD sets 2 0) x in
     let bounded = has (getD sets 3 0) x in
-    ap₂ (λ (a d : ℕ). record { age = a; deadline = d; happened = happened; included = included; pending = pending; bounded = bounded })
+    let count = getD columns (128 + x) 0 in
+    ap₂ (λ (a d : ℕ). record { age = a; deadline = d; happened = happened; included = included; pending = pending; bounded = bounded; count = count })
     (under happened (λ a. min (a + 1) limit) (ageAt clock columns x) (ageAt (clock + 1) columns x) (aged _ clock begun))
     (under bounded (λ d. d - 1) (ticksAt clock columns x) (ticksAt (clock + 1) columns x) (passed _ clock))
 
@@ -105,6 +106,6 @@ pub tick-stands : (n : ℕ) (tail : List Record) (clock : ℕ) (sets columns : L
     → Stands n tail (clock + 1) sets columns (time m)
 unfolding time
 tick-stands n tail clock sets columns m stands =
-    each-stands n tail clock sets columns m stands (λ x. later) (clock + 1) sets columns (stands .four-sets) (stands .two-columns)
+    each-stands n tail clock sets columns m stands (λ x. later) (clock + 1) sets columns (stands .four-sets) (stands .three-columns)
     (λ x b. omega (arith, stands .ages-begun x b))
     (λ x b. later-at clock sets columns x (stands .ages-begun x b))

@@ -1,4 +1,4 @@
--- The numbers in their order, and then the six fields of the record that was read. Assumes nothing.
+-- The numbers in their order, and then the seven fields of the record that was read. Assumes nothing.
 use Prim.Native.Nat.{_<_}
 use native.Mathlib.Omega.{arith}
 use borrow.Author.Needs.{needs}

@@ -1,13 +1,12 @@
--- The caused events of a guarded tick that is done: they are the answer's first places, they fit where the buffer has a byte for each event, and
--- they are put there one by one. The numbers before the tick's own: reading, then the room. Assumes nothing.
+-- The caused events of a guarded tick that is done: they are the answer's first places, and they fit where the buffer has a byte for each event.
+-- The numbers before the tick's own: reading, then the room. Assumes nothing.
 use mathlib.Core.Path.{_≡_, _∙_, ap, sym}
 use mathlib.Core.List.{List, _++_}
-use Prim.Native.Nat.{ℕ, suc, _<_, _≤_, _+_, _-_}
-use native.Mathlib.Numerals.{add-one}
+use Prim.Native.Nat.{ℕ, _≤_, _-_}
 use native.Mathlib.Omega.{arith}
 use lib.Dec.{ltb}
-use lib.ListN.{length, take, drop, getD, set, replicate}
-use lib.Seq.{take-suc, take-at, drop-cons, set-at, length-take-le, append-snoc}
+use lib.ListN.{length, take, drop, replicate}
+use lib.Seq.{take-at}
 use borrow.Author.Tests.{ltb-false}
 use Rattle.rules.specs.declared.Table.{Table}
 use Rattle.rules.specs.declared.Marking.{Marking}
@@ -50,16 +49,6 @@ module _ (t : Table) (m : Marking) (answer : GuardedAnswer) (answer-is : answer 
       e ∙ ap {B = List ℕ} (λ l. l ++ drop (answer .count) before) caused-is
       ∙ ap (λ (n : ℕ). caused t m ++ drop n before) count-is
       ∙ rw h
-
--- one more place of a list at the start of a buffer
-pub put-more : (list buffer : List ℕ) (i : ℕ) → i < length list → i < length buffer
-    → set (take i list ++ drop i buffer) i (getD list i 0) ≡ take (i + 1) list ++ drop (i + 1) buffer
-put-more list buffer i a b =
-    ap {B = List ℕ} (λ l. set (take i list ++ l) i (getD list i 0)) (drop-cons buffer i 0 b)
-    ∙ set-at (take i list) (getD buffer i 0) (drop (suc i) buffer) (getD list i 0) i (length-take-le i list (omega arith))
-    ∙ sym (append-snoc (take i list) (getD list i 0) (drop (suc i) buffer))
-    ∙ ap {B = List ℕ} (λ l. l ++ drop (suc i) buffer) (sym (take-suc list i 0 a))
-    ∙ ap {B = List ℕ} (λ k. take k list ++ drop k buffer) (sym (add-one i))
 
 -- reading, then the room
 module _ (table marking : List ℕ) (read : Images) (read-is : read ≡ images table marking) (bytes short number : ℕ)

@@ -1,4 +1,4 @@
--- What is read is judged 'done', and a marking image has 8 bytes for each of the table's events. Assumes nothing.
+-- What is read is judged 'done', and a marking image has a record's bytes for each of the table's events. Assumes nothing.
 use mathlib.Core.Path.{_≡_}
 use mathlib.Core.List.{List}
 use Prim.Native.Nat.{ℕ, _*_}

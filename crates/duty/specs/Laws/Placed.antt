@@ -1,27 +1,18 @@
--- Values put one by one into the first places of a list: they stand there, and later places stay. Assumes nothing.
-use mathlib.Core.Path.{_≡_, refl, _∙_, ap}
-use mathlib.Core.List.{List, [], _∷_, _++_}
-use Prim.Native.Nat.{ℕ, suc, _≤_}
-use native.Mathlib.Nat.{le-of-suc-le-suc}
+-- What is put one by one into the first places of a buffer stands there, and later places stay. Assumes nothing.
+use mathlib.Core.Path.{_≡_, _∙_, ap, sym}
+use mathlib.Core.List.{List, _++_}
+use Prim.Native.Nat.{ℕ, suc, _<_, _+_}
+use native.Mathlib.Numerals.{add-one}
 use native.Mathlib.Omega.{arith}
-use lib.ListN.{length, drop, set, length-set}
+use lib.ListN.{length, take, drop, getD, set}
+use lib.Seq.{take-suc, drop-cons, set-at, length-take-le, append-snoc}
 
--- the values, each put at the place behind the one before it, from place `at` on
-abbrev pub placed : ℕ → List ℕ → List ℕ → List ℕ
-placed at [] l = l
-placed at (v ∷ values) l = placed (suc at) values (set l at v)
-
-pub placed-length : (at : ℕ) (values l : List ℕ) → length (placed at values l) ≡ length l
-placed-length at [] l = refl
-placed-length at (v ∷ values) l = placed-length (suc at) values (set l at v) ∙ length-set l at v
-
--- a place before them is not reached
-behind : (at : ℕ) (values : List ℕ) (a : ℕ) (l : List ℕ) → placed (suc at) values (a ∷ l) ≡ a ∷ placed at values l
-behind at [] a l = refl
-behind at (v ∷ values) a l = behind (suc at) values a (set l at v)
-
-pub placed-all : (values l : List ℕ) → length values ≤ length l → placed 0 values l ≡ values ++ drop (length values) l
-placed-all [] l h = refl
-placed-all (v ∷ values) [] h = absurd (omega (arith, h))
-placed-all (v ∷ values) (a ∷ l) h =
-    behind 0 values v l ∙ ap (λ (rest : List ℕ). v ∷ rest) (placed-all values l (le-of-suc-le-suc h))
+-- one more place of a list at the start of a buffer
+pub put-more : (list buffer : List ℕ) (i : ℕ) → i < length list → i < length buffer
+    → set (take i list ++ drop i buffer) i (getD list i 0) ≡ take (i + 1) list ++ drop (i + 1) buffer
+put-more list buffer i a b =
+    ap {B = List ℕ} (λ l. set (take i list ++ l) i (getD list i 0)) (drop-cons buffer i 0 b)
+    ∙ set-at (take i list) (getD buffer i 0) (drop (suc i) buffer) (getD list i 0) i (length-take-le i list (omega arith))
+    ∙ sym (append-snoc (take i list) (getD list i 0) (drop (suc i) buffer))
+    ∙ ap {B = List ℕ} (λ l. l ++ drop (suc i) buffer) (sym (take-suc list i 0 a))
+    ∙ ap {B = List ℕ} (λ k. take k list ++ drop k buffer) (sym (add-one i))

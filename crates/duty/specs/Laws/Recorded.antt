@@ -16,13 +16,13 @@ use Rattle.duty.specs.Laws.Answered.{left, judged-read}
 use Rattle.duty.specs.Laws.Told.{was-read, asked-exists, room-there}
 
 module _ (table marking : List ℕ) (read : Images) (read-is : read ≡ images table marking) (event : ℕ) (before : List ℕ) {asked number : ℕ}
-    (asked-is : asked ≡ (8 if not (ltb event (read .table .events)) else 14 if ltb (length before) 6))
+    (asked-is : asked ≡ (8 if not (ltb event (read .table .events)) else 14 if ltb (length before) 7))
     (number-is : number ≡ (read .number else asked)) where
   pub fields-number : number ≡ fieldsNumber table marking event (length before)
   unfolding images fieldsNumber
   fields-number =
       number-is
-      ∙ rw asked-is (ap (λ (i : Images). i .number else 8 if not (ltb event (i .table .events)) else 14 if ltb (length before) 6) read-is)
+      ∙ rw asked-is (ap (λ (i : Images). i .number else 8 if not (ltb event (i .table .events)) else 14 if ltb (length before) 7) read-is)
 
   -- a refusal leaves every place
   pub fields-left : (number ≡ 0 → ⊥) → before ≡ fieldsTold table marking event before
@@ -32,17 +32,17 @@ module _ (table marking : List ℕ) (read : Images) (read-is : read ≡ images t
   module _ (h : number ≡ 0) where
     pub event-there : event < 64
     event-there =
-        let read-done = was-read (read .number) (read .table .events) event (length before) 6 asked-is number-is h in
-        let exists = asked-exists (read .number) (read .table .events) event (length before) 6 asked-is number-is h in
+        let read-done = was-read (read .number) (read .table .events) event (length before) 7 asked-is number-is h in
+        let exists = asked-exists (read .number) (read .table .events) event (length before) 7 asked-is number-is h in
         omega (arith, exists, good _ _ (judged-read table marking read read-is read-done) .table-good .few-events)
 
-    pub fields-room : 6 ≤ length before
-    fields-room = room-there (read .number) (read .table .events) event (length before) 6 asked-is number-is h
+    pub fields-room : 7 ≤ length before
+    fields-room = room-there (read .number) (read .table .events) event (length before) 7 asked-is number-is h
 
-    pub fields-put : (after : List ℕ) → after ≡ recordFields (recordOf (read .marking) event) ++ drop 6 before
+    pub fields-put : (after : List ℕ) → after ≡ recordFields (recordOf (read .marking) event) ++ drop 7 before
         → after ≡ fieldsTold table marking event before
     unfolding images fieldsTold
     fields-put after e =
         e
-        ∙ ap (λ (i : Images). recordFields (recordOf (i .marking) event) ++ drop 6 before) read-is
+        ∙ ap (λ (i : Images). recordFields (recordOf (i .marking) event) ++ drop 7 before) read-is
         ∙ rw (sym fields-number ∙ h)

@@ -22,8 +22,8 @@ use Rattle.rules.specs.Laws.Numbers.{if-done, both-done, first-each, first-done
 use Rattle.rules.specs.Laws.Fields.{bytes-of-word}
 use Rattle.rules.specs.Laws.Pieces.{piece-word, pieces-whole}
 use Rattle.rules.specs.Laws.Written.{records-sized, image-length}
-use Rattle.image.specs.Packed.{wordOfRecord}
-use Rattle.image.specs.Laws.Packed.{image-word, room, word-fits, record-back, word-read}
+use Rattle.image.specs.Packed.{wholeOfRecord}
+use Rattle.image.specs.Laws.Packed.{image-word, room, whole-fits, record-back, whole-read}
 use Rattle.image.specs.Laws.Parts.{record-done}
 
 module _ (events : ℕ) (f : ℕ → Record) where
@@ -81,8 +81,8 @@ module _ (events : ℕ) (image : List ℕ) where
       part : (e : ℕ) → e < events → eventImage m e ≡ take recordBytes (drop (0 + recordBytes * e) image)
       part e l =
           image-word (recordOf m e)
-          ∙ ap (λ (k : Record). bytesOf recordBytes (wordOfRecord k)) (record-from events (λ x. recordAt image (recordBit x)) e l)
-          ∙ ap (bytesOf recordBytes) (word-read image (recordBit e))
+          ∙ ap (λ (k : Record). bytesOf recordBytes (wholeOfRecord k)) (record-from events (λ x. recordAt image (recordBit x)) e l)
+          ∙ ap (bytesOf recordBytes) (whole-read image (recordBit e))
           ∙ bytes-of-word image bytes (recordBytes * e) recordBytes (omega (arith, r .exact))
           ∙ ap (λ (k : ℕ). take recordBytes (drop k image)) (sym (zero-add (recordBytes * e)))
 
@@ -91,10 +91,10 @@ module _ (m : Marking) (judged : markingNumber m ≡ 0) where
   pub record-again : (e : ℕ) → e < m .events → recordAt (markingImage m) (recordBit e) ≡ recordOf m e
   record-again e l =
       let r = recordOf m e in
-      let done = record-done m judged e l in
-      record-back (markingImage m) (recordBit e) r (room r done)
-      (ap₂ (λ (s : List ℕ) (k : ℕ). field s (8 * k) 64) (sym (append-nil (markingImage m))) (sym (zero-add (recordBytes * e)))
-      ∙ piece-word (records-sized m) [] [] 0 (m .events) e (wordOfRecord r) refl l (image-word r) (word-fits r done))
+      let small = room r (record-done m judged e l) in
+      record-back (markingImage m) (recordBit e) r small
+      (ap₂ (λ (s : List ℕ) (k : ℕ). field s (8 * k) 96) (sym (append-nil (markingImage m))) (sym (zero-add (recordBytes * e)))
+      ∙ piece-word (records-sized m) [] [] 0 (m .events) e (wholeOfRecord r) refl l (image-word r) (whole-fits r small))
 
   pub image-readable : Readable (m .events) (markingImage m)
   unfolding markingNumber

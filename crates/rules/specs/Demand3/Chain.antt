@@ -7,7 +7,7 @@ use Prim.Native.Nat.{ℕ, zero, suc, _<_, _≤_, _-_}
 use native.Mathlib.Omega.{arith}
 use lib.Dec.{eqb}
 use lib.ListN.{length, getD, take, drop, replicate}
-use lib.Seq.{split-at, take-at, drop-at}
+use lib.Seq.{split-at, drop-at}
 use borrow.Author.Tests.{eqb-true, eq-eqb}
 use Rattle.rules.specs.declared.Table.{Table}
 use Rattle.rules.specs.declared.Marking.{Marking}
@@ -30,8 +30,10 @@ use Rattle.rules.specs.Trace.{requestKind, reportKind, plainTickKind, gu
 use Rattle.rules.specs.Trace.{stepsIn, bytesNumber, runBytes}
 use Rattle.rules.specs.Promised.{Promise}
 use Rattle.rules.specs.History.{Act, executes, passes, thenPass, actsOf, historyOf}
-use Rattle.rules.specs.Calls.{step, Calls, none, requested, reported, ticked, guardedly, ran, ran-bytes, listed, actsIn, Caused, Ticked, Answered}
+use Rattle.rules.specs.Calls.{step, Calls, none, requested, reported, ticked, guardedly, ran, ran-bytes, offered, listed, actsIn}
+use Rattle.rules.specs.Calls.{Caused, Ticked, Answered}
 use Rattle.rules.specs.Laws.Time.{none-due-yet, set-empty}
+use Rattle.rules.specs.Laws.Taken.{tick-listed}
 use Rattle.rules.specs.Laws.Trace.{end-append}
 use Rattle.rules.specs.Demand3.Facts.{effect-judged}
 use Rattle.rules.specs.Demand3.Accepts.{check-parts}
@@ -54,7 +56,7 @@ module _ (t : Table) (m : Marking) (accepted : check t m ≡ Accepts) (answer : 
   list-is = ap (λ (a : GuardedAnswer). a .caused) is ∙ kept .listed
 
   listed-is : listed answer ≡ causes
-  listed-is = ap (take (answer .count)) list-is ∙ take-at causes (replicate (mostEvents - length causes) 0) (answer .count) (sym count-is)
+  listed-is = ap (λ (a : GuardedAnswer). listed a) is ∙ tick-listed t m ∙ rw (kept .not-refused)
 
 -- what is caused at two places is caused twice
 once-at : (l : List ℕ) (i : ℕ) → i < length l → 1 ≤ times (getD l i 0) l
@@ -235,6 +237,7 @@ module _ (t : Table) where
       (by-answer (λ (a : MarkingAnswer). a .marking) (λ a. done (a .number) (historyOf t m list) []) (λ a. done (a .number) list []) is
       (played m (bytesNumber t m bytes room) list))
       (λ a. follows rest a)
+  follows (offered preferred fallback answer is rest) accepted = follows rest accepted
 
 -- what a caller is answered where the check accepts
 pub answered : (t : Table) (m : Marking) → check t m ≡ Accepts → Answered t m

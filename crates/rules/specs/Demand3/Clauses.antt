@@ -15,7 +15,7 @@ use Rattle.rules.specs.declared.CheckAnswer.the-variants.{Rejects}
 use Rattle.rules.specs.Counting.{every, some, lowest, howMany, repeated, belowFrom}
 use Rattle.rules.specs.Numbers.{firstOf}
 use Rattle.rules.specs.EventSet.{has, setOf}
-use Rattle.rules.specs.Judge.{timeFits, relationNumber, tableNumber, recordFits, markingNumber, markingNumberFor, judged}
+use Rattle.rules.specs.Judge.{timeFits, relationNumber, tableNumber, stateFits, countFits, recordFits, markingNumber, markingNumberFor, judged}
 use Rattle.rules.specs.Enabled.{stops, blocks, isEnabled}
 use Rattle.rules.specs.Effect.{withDeadline, excludes, includes, given, smallest, executed, withInclusion, effectAt, effect}
 use Rattle.rules.specs.Time.{isDue, anyDue, dueSet, later, time, plainTickNumber}
@@ -113,8 +113,8 @@ cases =
 -- each is rejected by its reason and by no other, and goes wrong as told
 pub each-clause-needed : map shown cases ≡ map (λ c. c .told) cases
 unfolding cases rejectedBy shown reasons goes every some lowest howMany repeated belowFrom firstOf has setOf timeFits relationNumber tableNumber
-    recordFits markingNumber markingNumberFor judged stops blocks isEnabled withDeadline excludes includes given smallest executed withInclusion
-    effectAt effect isDue anyDue dueSet later time plainTickNumber requestNumber reportNumber report busy follows widened widenedFully closure
+    stateFits countFits recordFits markingNumber markingNumberFor judged stops blocks isEnabled withDeadline excludes includes given smallest executed
+    withInclusion effectAt effect isDue anyDue dueSet later time plainTickNumber requestNumber reportNumber report busy follows widened widenedFully closure
     unreportable uncausable waiting awaited onCycle reopening reviving verdict check holdsBack needed ready orderOf taken takenAll executedOf
     caused guarded inTurn effects stepNumber stepDone stepped endOf
 each-clause-needed = refl

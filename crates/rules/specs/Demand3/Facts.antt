@@ -4,16 +4,16 @@
 use mathlib.Core.Path.{_≡_, refl, _∙_, ap, sym, subst}
 use mathlib.Core.Bool.{Bool, true, false, not, _&&_, cond}
 use mathlib.Core.Logic.{_⊎_, ⊎-elim, inl, inr}
-use Prim.Native.Nat.{ℕ, _<_, _≤_, _-_}
+use Prim.Native.Nat.{ℕ, _<_, _≤_, _+_, _-_, min}
 use lib.Dec.{eqb, ltb}
 use lib.ListN.{getD, length, List·getD-eq-default}
-use borrow.Author.Tests.{eqb-true, eq-eqb, ltb-true, ltb-false, le-leb}
+use borrow.Author.Tests.{eqb-true, eq-eqb, ne-eqb, ltb-true, ltb-false, le-leb}
 use Rattle.rules.specs.declared.Relation.{Relation}
 use Rattle.rules.specs.declared.Table.{Table}
 use Rattle.rules.specs.declared.Record.{Record}
 use Rattle.rules.specs.declared.Marking.{Marking}
 use Rattle.rules.specs.Counting.{some, eachBelow}
-use Rattle.rules.specs.Holds.{mostEvents, isResponse, isInclusion, isExclusion, emptyRecord, relationOf, recordOf, withRecords}
+use Rattle.rules.specs.Holds.{countLimit, mostEvents, isResponse, isInclusion, isExclusion, emptyRecord, relationOf, recordOf, withRecords}
 use Rattle.rules.specs.Judge.{eventsFit, tableNumber, recordFits, recordNumber, markingNumber, markingNumberFor, judged}
 use Rattle.rules.specs.Effect.{Deadline, within, eventually, isPending, isBounded, leads, excludes, includes, response, effectAt, effect}
 use Rattle.rules.specs.Time.{later, time}
@@ -24,7 +24,7 @@ use Rattle.rules.specs.Shapes.Good.{GoodTable}
 use Rattle.rules.specs.Laws.Judge.{good}
 use Rattle.rules.specs.Demand3.Response.{asked, Responds, response-gives}
 use Rattle.rules.specs.Demand3.Records.{underDeadline, ranOut, at-included, at-happened, at-pending, at-under, at-out}
-use Rattle.rules.specs.Demand3.Records.{at-fits, at-undisturbed, later-fits}
+use Rattle.rules.specs.Demand3.Records.{at-count, at-fits, at-undisturbed, later-fits}
 
 -- a relation of some kind leads from e to x
 pub record Linked (t : Table) (kind : Relation → Bool) (e x : ℕ) : Type 0 where
@@ -107,6 +107,10 @@ module _ (t : Table) (m : Marking) (e x : ℕ) (b : x < m .events) where
       go r h true = refl
       go r h false = h
 
+  -- the execution of another event does not count
+  pub count-stays : (x ≡ e → ⊥) → recordOf (effect t m e) x .count ≡ recordOf m x .count
+  count-stays other = at-effect (λ r s. s .count ≡ r .count) refl (λ r. at-count t e x r ∙ rw (ne-eqb x e other))
+
   -- pending afterwards, it was pending and is not e, or e responds to it
   pub pending-by : recordOf (effect t m e) x .pending ≡ true → ((recordOf m x .pending ≡ true) × (x ≡ e → ⊥)) ⊎ Linked t isResponse e x
   pending-by = at-effect (λ r s. s .pending ≡ true → ((r .pending ≡ true) × (x ≡ e → ⊥)) ⊎ Linked t isResponse e x) (λ h. absurd (clash h refl))
@@ -154,6 +158,13 @@ happened-own t m e b =
     at-effect t m e e b (λ r s. r .included ≡ true → s .happened ≡ true) (λ h. h)
     (λ r h. at-happened t e e r ∙ rw (eq-eqb e e refl))
 
+-- and is counted once more
+pub count-own : (t : Table) (m : Marking) (e : ℕ) → e < m .events → recordOf m e .included ≡ true
+    → recordOf (effect t m e) e .count ≡ min (recordOf m e .count + 1) countLimit
+count-own t m e b =
+    at-effect t m e e b (λ r s. r .included ≡ true → s .count ≡ min (r .count + 1) countLimit) (λ h. absurd (clash h refl))
+    (λ r h. at-count t e e r ∙ rw (eq-eqb e e refl))
+
 -- One tick.
 module _ (m : Marking) (x : ℕ) (b : x < m .events) where
   pub at-time : recordOf (time m) x ≡ later (recordOf m x)
@@ -179,6 +190,10 @@ module _ (m : Marking) (x : ℕ) (b : x < m .events) where
   pub time-deadline : recordOf m x .bounded ≡ true → recordOf (time m) x .deadline ≡ recordOf m x .deadline - 1
   unfolding later
   time-deadline h = ap (λ (r : Record). r .deadline) at-time ∙ rw h
+
+  pub time-count : recordOf (time m) x .count ≡ recordOf m x .count
+  unfolding later
+  time-count = ap (λ (r : Record). r .count) at-time
 
   pub time-fits : recordFits (recordOf m x) ≡ true → recordFits (recordOf (time m) x) ≡ true
   time-fits h = subst (λ r. recordFits r ≡ true) (sym at-time) (later-fits (recordOf m x) h)

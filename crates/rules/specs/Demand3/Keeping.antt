@@ -2,7 +2,7 @@
 use mathlib.Core.Path.{_≡_, refl, sym, subst}
 use mathlib.Core.Bool.{Bool, true, false, _&&_, cond}
 use mathlib.Core.List.{List, [], _∷_, _++_}
-use Prim.Native.Nat.{ℕ, suc, _<_, _≤_, _-_}
+use Prim.Native.Nat.{ℕ, suc, _<_, _≤_}
 use native.Mathlib.Omega.{arith}
 use lib.Dec.{eqb, ltb}
 use borrow.Author.Tests.{eq-eqb, ltb-true}
@@ -36,7 +36,8 @@ in-turn-at t m [] rest e h =
     (ltb-true e (t .events) (r .0), r .1, q .1)
 in-turn-at t m (d ∷ before) rest e h = in-turn-at t (effect t m d) before rest e (both (ltb d (t .events) && isCausable t d && isEnabled t m d) _ h .1)
 
-listed-once : (before rest : List ℕ) (e : ℕ) → 1 ≤ times e (before ++ (e ∷ rest))
+-- what stands in a list is in it at least once
+pub listed-once : (before rest : List ℕ) (e : ℕ) → 1 ≤ times e (before ++ (e ∷ rest))
 unfolding times
 listed-once [] rest e = rw (eq-eqb e e refl) (omega arith)
 listed-once (d ∷ before) rest e = go (eqb e d) (listed-once before rest e)

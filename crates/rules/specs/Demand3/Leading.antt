@@ -27,6 +27,9 @@ module _ (t : Table) where
   after-then-pass m [] = refl
   after-then-pass m (e ∷ l) = after-then-pass (effect t m e) l
 
+  pub after-guarded : (m : Marking) → after t m (thenPass (caused t m)) ≡ guarded t m
+  after-guarded m = after-then-pass m (caused t m) ∙ sym (guarded-is t m)
+
   pub after-acts : (m : Marking) (s : Step) → after t m (actsOf t m s) ≡ stepped t m s
   unfolding actsOf stepped stepDone after
   after-acts m s = go (eqb (stepNumber t m s) 0) (leb (s .kind) reportKind) (eqb (s .kind) plainTickKind)
@@ -35,7 +38,7 @@ module _ (t : Table) where
           ≡ cond d (cond a (effect t m (s .event)) (cond p (time m) (guarded t m))) m
       go true true p = refl
       go true false true = refl
-      go true false false = after-then-pass m (caused t m) ∙ sym (guarded-is t m)
+      go true false false = after-guarded m
       go false a p = refl
 
   pub after-history : (m : Marking) (steps : List Step) → after t m (historyOf t m steps) ≡ endOf t m steps

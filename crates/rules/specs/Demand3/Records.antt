@@ -10,12 +10,13 @@ use lib.Dec.{eqb, leb}
 use borrow.Author.Tests.{eqb-false, ne-eqb, leb-true, le-leb}
 use Rattle.rules.specs.declared.Table.{Table}
 use Rattle.rules.specs.declared.Record.{Record}
-use Rattle.rules.specs.Holds.{limit}
-use Rattle.rules.specs.Judge.{recordFits}
+use Rattle.rules.specs.Holds.{limit, countLimit}
+use Rattle.rules.specs.Judge.{stateFits, countFits, recordFits}
 use Rattle.rules.specs.Effect.{Deadline, none, eventually, within, deadlineOf, isPending, isBounded, ticksOf, withDeadline, meets}
 use Rattle.rules.specs.Effect.{excludes, includes, response, executed, withInclusion, effectAt}
 use Rattle.rules.specs.Time.{isDue, later}
 use Rattle.rules.specs.Laws.Tests.{decide, clash, both, join}
+use Rattle.rules.specs.Laws.Fit.{fits-parts, fits-both, counted-fits}
 use Rattle.rules.specs.Shapes.Good.{GoodTable}
 use Rattle.rules.specs.Demand3.Response.{Picks, meets-picks, isZero, response-timely}
 
@@ -115,10 +116,11 @@ module _ (rule : Deadline → Deadline → Deadline) (picks : Picks rule) where
 
   responded-same : (new : Deadline) (r : Record)
       → (respondedBy new r .included ≡ r .included) × (respondedBy new r .happened ≡ r .happened) × (respondedBy new r .age ≡ r .age)
+      × (respondedBy new r .count ≡ r .count)
   unfolding withDeadline
-  responded-same none r = (refl, refl, refl)
-  responded-same eventually r = (refl, refl, refl)
-  responded-same (within d) r = (refl, refl, refl)
+  responded-same none r = (refl, refl, refl, refl)
+  responded-same eventually r = (refl, refl, refl, refl)
+  responded-same (within d) r = (refl, refl, refl, refl)
 
   -- its deadline is what the rule makes of the old one and the response
   pub responded-deadline : (new : Deadline) (r : Record) → isPending new ≡ true → deadlineOf (respondedBy new r) ≡ rule (deadlineOf r) new
@@ -146,9 +148,9 @@ module _ (rule : Deadline → Deadline → Deadline) (picks : Picks rule) where
       go true p = ⊎-elim (λ q. inl q) (λ q. inr (refl, q)) (met (sym (a .given-it r _) ∙ p))
       go false p = inl p
 
-  -- a record that fits still does
-  responded-fits : (new : Deadline) (r : Record) → ticksOf new ≤ limit → recordFits r ≡ true → recordFits (respondedBy new r) ≡ true
-  unfolding recordFits withDeadline
+  -- a state that fits still does
+  responded-fits : (new : Deadline) (r : Record) → ticksOf new ≤ limit → stateFits r ≡ true → stateFits (respondedBy new r) ≡ true
+  unfolding stateFits withDeadline
   responded-fits new r small h = go (isPending new)
     where
       p : (leb (r .age) (cond (r .happened) limit 0) ≡ true)
@@ -171,7 +173,7 @@ module _ (rule : Deadline → Deadline → Deadline) (picks : Picks rule) where
       ticks : ticksOf (rule (deadlineOf r) new) ≤ limit
       ticks = ⊎-elim (λ q. rw q old) (λ q. rw q small) (picks (deadlineOf r) new)
 
-      go : (b : Bool) → recordFits (cond b (withDeadline r (rule (deadlineOf r) new)) r) ≡ true
+      go : (b : Bool) → stateFits (cond b (withDeadline r (rule (deadlineOf r) new)) r) ≡ true
       go true = join (p .0) (with-it (rule (deadlineOf r) new) ticks)
       go false = h
 
@@ -217,6 +219,15 @@ module _ (t : Table) (e x : ℕ) where
       go true = refl
       go false = refl
 
+  -- an execution of x counts, and nothing else does
+  pub at-count : (r : Record) → effectAt t e x r .count ≡ cond (eqb x e) (min (r .count + 1) countLimit) (r .count)
+  unfolding effectAt withInclusion executed
+  at-count r = responded-same meets meets-picks (response t e x) (withInclusion t e x (own r)) .3 ∙ go (eqb x e)
+    where
+      go : (b : Bool) → cond b (executed r) r .count ≡ cond b (min (r .count + 1) countLimit) (r .count)
+      go true = refl
+      go false = refl
+
   at-seen : (a : Aspect) (r : Record) → a .seen (effectAt t e x r) ≡ true
       → ((a .seen r ≡ true) × (x ≡ e → ⊥)) ⊎ ((isPending (response t e x) ≡ true) × (a .test (response t e x) ≡ true))
   unfolding effectAt
@@ -245,14 +256,26 @@ module _ (t : Table) (e x : ℕ) where
   unfolding effectAt
   at-response r h = responded-deadline meets meets-picks (response t e x) (withInclusion t e x (own r)) h
 
-  pub at-fits : GoodTable t → (r : Record) → recordFits r ≡ true → recordFits (effectAt t e x r) ≡ true
-  unfolding effectAt withInclusion executed recordFits
-  at-fits good r h =
+  at-state-fits : GoodTable t → (r : Record) → stateFits r ≡ true → stateFits (effectAt t e x r) ≡ true
+  unfolding effectAt withInclusion executed stateFits
+  at-state-fits good r h =
       responded-fits meets meets-picks (response t e x) (withInclusion t e x (own r)) (response-timely t good e x .1) (go (eqb x e))
     where
-      go : (b : Bool) → recordFits (withInclusion t e x (cond b (executed r) r)) ≡ true
+      go : (b : Bool) → stateFits (withInclusion t e x (cond b (executed r) r)) ≡ true
       go true = refl
       go false = h
+
+  at-count-fits : (r : Record) → countFits r ≡ true → countFits (effectAt t e x r) ≡ true
+  unfolding countFits
+  at-count-fits r h = rw (at-happened r, at-count r) (go (eqb x e))
+    where
+      go : (b : Bool) → let n = cond b (min (r .count + 1) countLimit) (r .count) in
+          cond (cond b true (r .happened)) (leb 1 n && leb n countLimit) (eqb n 0) ≡ true
+      go true = counted-fits (r .count)
+      go false = h
+
+  pub at-fits : GoodTable t → (r : Record) → recordFits r ≡ true → recordFits (effectAt t e x r) ≡ true
+  at-fits good r h = let p = fits-parts r h in fits-both (effectAt t e x r) (at-state-fits good r (p .0)) (at-count-fits r (p .1))
 
   -- with no response to x, and x another event, its deadline stays
   pub at-undisturbed : (r : Record) → (x ≡ e → ⊥) → isPending (response t e x) ≡ false
@@ -262,11 +285,13 @@ module _ (t : Table) (e x : ℕ) where
 
 -- one tick
 pub later-fits : (r : Record) → recordFits r ≡ true → recordFits (later r) ≡ true
-unfolding later recordFits
+unfolding later stateFits countFits
 later-fits r h =
-    let p = both (leb (r .age) (cond (r .happened) limit 0)) _ h in
+    let fits = fits-parts r h in
+    let p = both (leb (r .age) (cond (r .happened) limit 0)) _ (fits .0) in
     let q = both (cond (r .pending) true (not (r .bounded))) (leb (r .deadline) (cond (r .bounded) limit 0)) (p .1) in
-    join (older (r .happened) (leb-true (r .age) _ (p .0))) (join (q .0) (nearer (r .bounded) (leb-true (r .deadline) _ (q .1))))
+    fits-both (later r) (join (older (r .happened) (leb-true (r .age) _ (p .0))) (join (q .0) (nearer (r .bounded) (leb-true (r .deadline) _ (q .1)))))
+    (fits .1)
   where
     older : (b : Bool) → r .age ≤ cond b limit 0 → leb (cond b (min (r .age + 1) limit) (r .age)) (cond b limit 0) ≡ true
     older true l = le-leb (min (r .age + 1) limit) limit (min-le-right (r .age + 1) limit)

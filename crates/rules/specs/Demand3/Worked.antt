@@ -13,7 +13,7 @@ use Rattle.rules.specs.declared.CheckAnswer.the-variants.{Accepts}
 use Rattle.rules.specs.Counting.{every, some, lowest, howMany, repeated, belowFrom}
 use Rattle.rules.specs.Numbers.{firstOf}
 use Rattle.rules.specs.EventSet.{has, setOf}
-use Rattle.rules.specs.Judge.{timeFits, relationNumber, tableNumber, recordFits, markingNumber, markingNumberFor, judged}
+use Rattle.rules.specs.Judge.{timeFits, relationNumber, tableNumber, stateFits, countFits, recordFits, markingNumber, markingNumberFor, judged}
 use Rattle.rules.specs.Enabled.{stops, blocks, isEnabled}
 use Rattle.rules.specs.Effect.{withDeadline, excludes, includes, given, smallest, executed, withInclusion, effectAt, effect}
 use Rattle.rules.specs.Time.{isDue, anyDue, dueSet, later, time, plainTickNumber}
@@ -47,7 +47,7 @@ abbrev leaked : Marking
 leaked = after shop.P shop.start (executes 0 ∷ [])
 
 accepted : check shop.P shop.start ≡ Accepts
-unfolding check judged tableNumber relationNumber timeFits markingNumberFor markingNumber recordFits every some lowest howMany repeated firstOf has
+unfolding check judged tableNumber relationNumber timeFits markingNumberFor markingNumber stateFits countFits recordFits every some lowest howMany repeated firstOf has
     setOf busy follows widened widenedFully closure unreportable uncausable waiting awaited onCycle reopening reviving verdict
 accepted = refl
 

@@ -30,14 +30,17 @@ other-same true false = refl
 other-same false true = refl
 other-same false false = refl
 
--- what is granted was enabled
+-- what is granted was enabled: by a step, which judges nothing, and by a call
+pub ask-granted : (wanted : Bool) (t : Table) (m : Marking) (e : ℕ) → askNumber wanted t m e ≡ 0 → isEnabled t m e ≡ true
+unfolding askNumber
+ask-granted wanted t m e h =
+    let p = both-done (eventNumber t e) _ h in
+    let q = both-done (9 if other wanted t e) _ (p .1) in
+    not-false (isEnabled t m e) (if-done 9 (not (isEnabled t m e)) (q .1))
+
 pub asked-granted : (wanted : Bool) (t : Table) (m : Marking) (e : ℕ) → asked wanted t m e .number ≡ 0 → isEnabled t m e ≡ true
-unfolding asked askNumber
-asked-granted wanted t m e h =
-    let p = both-done (judged t m) _ h in
-    let q = both-done (eventNumber t e) _ (p .1) in
-    let r = both-done (9 if other wanted t e) _ (q .1) in
-    not-false (isEnabled t m e) (if-done 9 (not (isEnabled t m e)) (r .1))
+unfolding asked
+asked-granted wanted t m e h = ask-granted wanted t m e (both-done (judged t m) (askNumber wanted t m e) h .1)
 
 pub request-granted : (t : Table) (m : Marking) (e : ℕ) → request t m e .number ≡ 0 → isEnabled t m e ≡ true
 request-granted t m e h = asked-granted true t m e (rw asked-request h)

@@ -12,11 +12,12 @@ use Rattle.rules.specs.declared.Record.{Record}
 use Rattle.rules.specs.declared.Marking.{Marking}
 use Rattle.rules.specs.Numbers.{_else_}
 use Rattle.rules.specs.Holds.{limit, isCondition, isResponse, relationOf, recordOf}
-use Rattle.rules.specs.Judge.{judged, timeFits, recordFits, eventNumber}
+use Rattle.rules.specs.Judge.{judged, timeFits, stateFits, recordFits, eventNumber}
 use Rattle.rules.specs.Laws.Tests.{both, not-false}
 use Rattle.rules.specs.Laws.Numbers.{if-done, both-done, else-refused}
 use Rattle.rules.specs.Shapes.Good.{GoodTable, Good}
 use Rattle.rules.specs.Laws.Judge.{good}
+use Rattle.rules.specs.Laws.Fit.{fits-parts}
 
 -- a number that is not 'done' stands, whatever would be asked next
 pub stands : {n a : ℕ} (next : ℕ) → n ≡ a → (n ≡ 0 → ⊥) → n ≡ (a else next)
@@ -36,8 +37,9 @@ event-told t m e h =
 
 -- an age, and a time, are at most the limit
 pub age-fits : (r : Record) → recordFits r ≡ true → r .age ≤ limit
-unfolding recordFits
-age-fits r h = go (r .happened) (leb-true (r .age) (cond (r .happened) limit 0) (both (leb (r .age) (cond (r .happened) limit 0)) _ h .0))
+unfolding stateFits
+age-fits r h =
+    go (r .happened) (leb-true (r .age) (cond (r .happened) limit 0) (both (leb (r .age) (cond (r .happened) limit 0)) _ (fits-parts r h .0) .0))
   where
     go : (b : Bool) → r .age ≤ cond b limit 0 → r .age ≤ limit
     go true l = l

@@ -1,5 +1,5 @@
--- Enabled and hold-up agree: an event is enabled exactly when its hold-up says so. Both ask for inclusion first, and 'some relation blocks'
--- is 'the lowest one that blocks lies below the count'. Assumes nothing.
+-- Enabled and hold-up agree: an event is enabled exactly when its hold-up says so. Both ask for inclusion first, so an enabled event is
+-- included; and 'some relation blocks' is 'the lowest one that blocks lies below the count'. Assumes nothing.
 use mathlib.Core.Path.{_≡_, refl, _∙_, sym}
 use mathlib.Core.Bool.{Bool, true, false, not, _&&_, cond}
 use Prim.Native.Nat.{ℕ}
@@ -15,6 +15,10 @@ use Rattle.rules.specs.Laws.Tests.{both, not-true}
 use Rattle.rules.specs.Laws.Counting.{lowest-some}
 
 module _ (t : Table) (m : Marking) (e : ℕ) where
+  pub enabled-included : isEnabled t m e ≡ true → recordOf m e .included ≡ true
+  unfolding isEnabled
+  enabled-included h = both (recordOf m e .included) (not (some (t .count) (blocks t m e))) h .0
+
   -- the hold-up, by the tests that enabled makes
   by-tests : holdUpOf t m e
       ≡ cond (not (recordOf m e .included)) Excluded (cond (some (t .count) (blocks t m e)) (Blocked (lowest (t .count) (blocks t m e))) Enabled)

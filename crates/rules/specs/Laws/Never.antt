@@ -19,6 +19,7 @@ use Rattle.rules.specs.Judge.{relationNumber, tableNumber, markingNumber
 use Rattle.rules.specs.Image.{relationImageNumber, tableImageNumber, readTable, writeTableNumber, markingImageNumber, readMarking, writeNumber, fresh}
 use Rattle.rules.specs.Pieces.{pieces}
 use Rattle.rules.specs.Image.{eventsIn, recordImage, eventImage, markingImage}
+use Rattle.rules.specs.Carrying.{carryNumber}
 use Rattle.rules.specs.Enabled.{enabledAnswer}
 use Rattle.rules.specs.Time.{dueAnswer, plainTickNumber, plainTick}
 use Rattle.rules.specs.Ask.{requestNumber, reportNumber, request, report}
@@ -213,12 +214,13 @@ module _ (P : ℕ → Type 0) (each : (number : ℕ) → given number ≡ true �
         go false (suc i) b = each 0 refl
 
   pub every-call : EveryCall P
-  unfolding readTable readMarking writeTableNumber writeNumber fresh enabledAnswer dueAnswer request report plainTick closureAnswer guardedTick remedy run runAnswers runBytes runBytesAnswers heardNumber
+  unfolding readTable readMarking writeTableNumber writeNumber carryNumber fresh enabledAnswer dueAnswer request report plainTick closureAnswer guardedTick remedy run runAnswers runBytes runBytesAnswers heardNumber
   every-call = record {
     of-read-table = table-image-given;
     of-read-marking = marking-image-given;
     of-write-table = λ t room. search (if-given, else-given, table-given);
     of-write-marking = λ m room. search (if-given, else-given, marking-given);
+    of-carry-marking = λ events old room. search (if-given, else-given, marking-given);
     of-fresh = λ events. search if-given;
     of-judge-table = table-given;
     of-judge-marking = marking-for-given;

@@ -1,12 +1,13 @@
 -- The first number given for refusal: by `if`, by `else`, and along a count. Assumes nothing.
 use mathlib.Core.Path.{_≡_, refl, _∙_, ap, sym}
-use mathlib.Core.Bool.{Bool, true, false}
-use mathlib.Core.Logic.{_⊎_, ⊎-elim}
+use mathlib.Core.Bool.{Bool, true, false, _||_}
+use mathlib.Core.Logic.{⊎-elim}
 use Prim.Native.Nat.{ℕ, zero, suc, _<_, _+_}
 use native.Mathlib.Omega.{arith}
 use native.Mathlib.Numerals.{add-one}
 use lib.Dec.{eqb}
 use borrow.Author.Tests.{eqb-true}
+use Rattle.rules.specs.Counting.{some}
 use Rattle.rules.specs.Numbers.{_if_, _else_, firstOf, done}
 use Rattle.rules.specs.Laws.Tests.{last-or-below}
 
@@ -83,6 +84,16 @@ module _ (f : ℕ → ℕ) where
       (λ (q : i ≡ n). rw (rw q at p) (ap f (sym q)))
       (λ (l : i < n). let e = first-here n i l p h in ap (λ (x : ℕ). x else f n) e ∙ else-refused (f n) h)
       (last-or-below b)
+
+-- one number for whatever place breaks a rule: that number, if some place does
+pub first-some : (k : ℕ) (f : ℕ → Bool) (n : ℕ) → firstOf n (λ i. (suc k) if f i) ≡ (suc k) if some n f
+unfolding firstOf some
+first-some k f zero = refl
+first-some k f (suc n) = rw (first-some k f n) (go (some n f))
+  where
+    go : (b : Bool) → ((suc k) if b else (suc k) if f n) ≡ (suc k) if (b || f n)
+    go true = refl
+    go false = refl
 
 -- two rules that give the same numbers give the same first
 pub first-same : (f g : ℕ → ℕ) (n : ℕ) → ((i : ℕ) → i < n → f i ≡ g i) → firstOf n f ≡ firstOf n g

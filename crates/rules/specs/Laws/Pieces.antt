@@ -1,6 +1,6 @@
--- Pieces of one length, joined, once over the piece and its length: how long they are, the last of them, and byte i of piece e; the number that a
--- piece is the bytes of, behind a head and before a rest; one put behind what stands in a buffer; the first i of them there, and one more; and
--- pieces that are each their stretch of an image are that stretch as a whole. Assumes nothing.
+-- Pieces of one length, joined, once over the piece and its length: how long they are, the last of them, byte i of piece e, and piece e as a whole;
+-- the number that a piece is the bytes of, behind a head and before a rest; one put behind what stands in a buffer; the first i of them there, and
+-- one more; and pieces that are each their stretch of an image are that stretch as a whole. Assumes nothing.
 use mathlib.Core.Path.{_≡_, sym, ap, ap₂, _∙_}
 use mathlib.Core.List.{List, _++_, append-assoc, append-nil}
 use Prim.Native.Nat.{ℕ, zero, suc, _+_, _*_, _^_, _<_, _≤_}
@@ -67,6 +67,22 @@ module _ {f : ℕ → List ℕ} {width : ℕ} (sized : Sized f width) where
       ∙ getD-append-add (f at) (pieces f (suc at) n ++ rest) (width * e + i) 0
       ∙ piece-byte rest (suc at) n e i (omega arith) l
       ∙ ap (λ (k : ℕ). getD (f k) i 0) (suc-add at e ∙ sym (add-suc at e))
+
+  -- piece e as a whole
+  pub piece-out : (rest : List ℕ) (at n e : ℕ) → e < n → take width (drop (width * e) (pieces f at n ++ rest)) ≡ f (at + e)
+  unfolding pieces
+  piece-out rest at zero e h = absurd (omega arith)
+  piece-out rest at (suc n) zero h =
+      let first : width * 0 ≡ 0 = omega arith in
+      ap₂ (λ (s : List ℕ) (k : ℕ). take width (drop k s)) (append-assoc (f at) (pieces f (suc at) n) rest) first
+      ∙ take-at (f at) (pieces f (suc at) n ++ rest) width (sized .each at)
+      ∙ ap f (sym (add-zero at))
+  piece-out rest at (suc n) (suc e) h =
+      let later : width * suc e ≡ length (f at) + width * e = omega (arith, sized .each at) in
+      ap₂ (λ (s : List ℕ) (k : ℕ). take width (drop k s)) (append-assoc (f at) (pieces f (suc at) n) rest) later
+      ∙ ap (take width) (drop-append-add (f at) (pieces f (suc at) n ++ rest) (width * e))
+      ∙ piece-out rest (suc at) n e (omega arith)
+      ∙ ap f (suc-add at e ∙ sym (add-suc at e))
 
   -- a piece that is the bytes of a number, behind a head and before a rest: its bytes hold that number
   pub piece-word : (head rest : List ℕ) (start n e v : ℕ) → length head ≡ start → e < n → f e ≡ bytesOf width v → v < 2 ^ (8 * width)

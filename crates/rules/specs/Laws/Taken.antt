@@ -1,21 +1,25 @@
 -- Taking a list of events, each executed if it goes ahead at its turn, else skipped: it is executing those that are executed, of which there
--- are no more than were taken; and the guarded tick is that, and a tick. What going ahead means is asked by the first two laws alone. Assumes nothing.
+-- are no more than were taken; and the guarded tick is that, and a tick, and its answer lists what is caused. What going ahead means is asked by
+-- the first two laws alone. Assumes nothing.
 use mathlib.Core.Path.{_≡_, refl, _∙_, ap}
 use mathlib.Core.Bool.{Bool, true, false, cond}
-use mathlib.Core.List.{List, [], _∷_}
+use mathlib.Core.List.{List, [], _∷_, _++_}
 use mathlib.Core.Logic.{_⊎_, inl, inr}
-use Prim.Native.Nat.{ℕ, suc, _≤_}
+use Prim.Native.Nat.{ℕ, suc, _≤_, _-_}
 use native.Mathlib.Omega.{arith}
 use lib.Dec.{eqb}
-use lib.ListN.{length}
+use lib.ListN.{length, replicate}
+use lib.Seq.{take-at}
 use Rattle.rules.specs.declared.Table.{Table}
 use Rattle.rules.specs.declared.Marking.{Marking}
 use Rattle.rules.specs.Counting.{times}
-use Rattle.rules.specs.Holds.{recordOf}
+use Rattle.rules.specs.Numbers.{done}
+use Rattle.rules.specs.Holds.{mostEvents, recordOf}
 use Rattle.rules.specs.Effect.{effect}
 use Rattle.rules.specs.Time.{time}
-use Rattle.rules.specs.Guard.{needed, order, goesAhead, taken, takenAll, executedOf, caused, guarded}
+use Rattle.rules.specs.Guard.{needed, order, goesAhead, taken, takenAll, executedOf, caused, guarded, guardedTick}
 use Rattle.rules.specs.Remedy.{effects}
+use Rattle.rules.specs.Calls.{listed}
 use Rattle.rules.specs.Laws.Tests.{decide}
 use Rattle.rules.specs.Laws.Order.{order-length}
 
@@ -38,6 +42,12 @@ module _ (t : Table) (m : Marking) (e : ℕ) where
   taken-out i = rw i
 
 module _ (t : Table) where
+  -- taking one list and then another
+  pub taken-append : (m : Marking) (a b : List ℕ) → takenAll t m (a ++ b) ≡ takenAll t (takenAll t m a) b
+  unfolding takenAll
+  taken-append m [] b = refl
+  taken-append m (e ∷ a) b = taken-append (taken t m e) a b
+
   -- taking a list is executing those of it that are executed
   pub taken-effects : (m : Marking) (l : List ℕ) → takenAll t m l ≡ effects t m (executedOf t m l)
   unfolding takenAll executedOf effects
@@ -81,3 +91,10 @@ module _ (t : Table) where
   pub guarded-is : (m : Marking) → guarded t m ≡ time (effects t m (caused t m))
   unfolding guarded caused
   guarded-is m = ap time (taken-effects m (order t m))
+
+  -- what its answer lists: the caused events, and none in a refusal
+  pub tick-listed : (m : Marking) → listed (guardedTick t m) ≡ done (guardedTick t m .number) (caused t m) []
+  unfolding guardedTick
+  tick-listed m =
+      let events = done (guardedTick t m .number) (caused t m) [] in
+      take-at events (replicate (mostEvents - length events) 0) (length events) refl

@@ -1,7 +1,6 @@
 -- What was read lies within the input, what is answered within the output, and the engine's call is asked as it may be. Assumes nothing.
-use mathlib.Core.Path.{sym, subst}
+use mathlib.Core.Path.{sym}
 use mathlib.Core.Logic.{⊎-elim, inl, inr}
-use Prim.Native.Nat.{_≤_}
 use native.Mathlib.Omega.{arith}
 use lib.Seq.{length-take-le}
 use borrow.Author.Needs.{needs}
@@ -37,8 +36,9 @@ slice-aggregate-answered-2 c = search needs
 
 answered-requires : tie.Need-answered-requires
 answered-requires c κs =
-    let read = c .before .before .before .before .before .fill .ensures in
-    (omega arith, ⊎-elim inl (λ l. inr (subst (10308 ≤_) (sym (length-take-le _ _ read)) l)) (c .before .before .before .rest .ensures))
+    let counted = c .before .before .before in
+    let read = counted .before .before .fill .ensures in
+    (omega arith, ⊎-elim inl (λ l. inr (rw (length-take-le _ _ read) l)) (counted .rest .ensures))
 
 array-share-prefix-output : tie.Need-array-share-prefix-output
 array-share-prefix-output c = search needs

@@ -1,6 +1,8 @@
 //! Faults: in decoded values, also such as no image can hold, and in images.
 
+use crate::carrying::OLD_RECORD_BYTES;
 use crate::decoded::{Marking, Record, Relation, Table, MOST_EVENTS, MOST_RELATIONS, TIME_LIMIT};
+use crate::image::RECORD_BYTES;
 use crate::rng::Rng;
 
 /// Past the limit, and past what 30 bits can hold.
@@ -31,6 +33,7 @@ fn garbage_record(rng: &mut Rng) -> Record {
         included: rng.flag(),
         pending: rng.flag(),
         bounded: rng.flag(),
+        count: rng.word(),
     }
 }
 
@@ -114,14 +117,16 @@ pub fn damage_record(rng: &mut Rng, marking: &mut Marking) {
     let place = some_place(rng, used);
     let record = &mut marking.records[place];
     let too_large = rng.one_of(TOO_LARGE);
-    match rng.below(8) {
+    match rng.below(14) {
         0 => {
             record.happened = false;
             record.age = rng.one_of([1, TIME_LIMIT]);
+            record.count = 0;
         }
         1 => {
             record.happened = true;
             record.age = too_large;
+            record.count = record.count.max(1);
         }
         2 => {
             record.pending = false;
@@ -141,6 +146,16 @@ pub fn damage_record(rng: &mut Rng, marking: &mut Marking) {
             record.pending = true;
             record.bounded = true;
             record.deadline = too_large;
+        }
+        // Nothing but the count disagrees, one way and the other.
+        7..=9 => {
+            record.happened = true;
+            record.count = 0;
+        }
+        10..=12 => {
+            record.happened = false;
+            record.age = 0;
+            record.count = rng.one_of([1, 2, 256, 65_536, 16_777_216, 2_147_483_648, u32::MAX]);
         }
         _ => *record = garbage_record(rng),
     }
@@ -223,10 +238,34 @@ pub fn damage_table_image(rng: &mut Rng, table: &Table, image: &mut Vec<u8>) {
 
 /// One fault in the image of a marking.
 pub fn damage_marking_image(rng: &mut Rng, image: &mut Vec<u8>) {
-    if rng.flag() {
-        change_length(rng, image, 8);
-    } else {
-        let bit = rng.below(8 * image.len());
-        flip(image, bit);
+    let events = image.len() / RECORD_BYTES;
+    let first_bit = 8 * RECORD_BYTES * some_place(rng, events);
+    match rng.below(10) {
+        0..=3 => change_length(rng, image, RECORD_BYTES),
+        // As long as an image of the old form.
+        4 => image.truncate(OLD_RECORD_BYTES * events),
+        // Happened turned over, its count left.
+        5 => flip(image, first_bit),
+        // A bit of the count, which is the last 32 of a record.
+        6 => flip(image, first_bit + 8 * OLD_RECORD_BYTES + rng.below(32)),
+        _ => {
+            let bit = rng.below(8 * image.len());
+            flip(image, bit);
+        }
+    }
+}
+
+/// One fault in the image of a marking of the old form.
+pub fn damage_old_image(rng: &mut Rng, image: &mut Vec<u8>) {
+    let events = image.len() / OLD_RECORD_BYTES;
+    let first_bit = 8 * OLD_RECORD_BYTES * some_place(rng, events);
+    match rng.below(8) {
+        0..=2 => change_length(rng, image, OLD_RECORD_BYTES),
+        // Happened, pending or bounded turned over: the fields behind it are left.
+        3 | 4 => flip(image, first_bit + rng.one_of([0, 32, 33])),
+        _ => {
+            let bit = rng.below(8 * image.len());
+            flip(image, bit);
+        }
     }
 }

@@ -172,12 +172,26 @@ fn some_time(rng: &mut Rng) -> u32 {
     }
 }
 
+/// The count of an event that has happened: the first ones, those about the
+/// hold, and any.
+fn some_count(rng: &mut Rng) -> u32 {
+    match rng.below(8) {
+        0 | 1 => 1,
+        2 | 3 => rng.between(2, 9) as u32,
+        4 => u32::MAX,
+        5 => u32::MAX - 1,
+        6 => u32::MAX - rng.below(6) as u32,
+        _ => rng.word().max(1),
+    }
+}
+
 fn some_record(rng: &mut Rng) -> Record {
     let mut record = Record::EMPTY;
     record.included = rng.chance(75);
     if rng.chance(45) {
         record.happened = true;
         record.age = some_time(rng);
+        record.count = some_count(rng);
     }
     if rng.chance(55) {
         record.pending = true;
@@ -256,11 +270,13 @@ fn add_chain(rng: &mut Rng, plan: &Plan, table: &mut Table, marking: &mut Markin
         chain.truncate(rng.between(2, 6));
     }
     let Some(&first) = chain.first() else { return };
+    // It may have happened before, and so have a count to add to.
     marking.records[first] = Record {
         included: true,
         pending: true,
         bounded: true,
-        ..Record::EMPTY
+        deadline: 0,
+        ..marking.records[first]
     };
     for two in chain.windows(2) {
         let (left, right) = (two[0], two[1]);
@@ -272,6 +288,7 @@ fn add_chain(rng: &mut Rng, plan: &Plan, table: &mut Table, marking: &mut Markin
         } else {
             record.happened = false;
             record.age = 0;
+            record.count = 0;
             push(table, relation(CONDITION, left, right, Some(0)));
         }
     }

@@ -193,11 +193,13 @@ fn p_margins_below_at_and_above_zero() {
 const HEX_TABLE: [u8; 12] = [
     0x04, 0x01, 0x00, 0x00, 0x40, 0x80, 0x40, 0x01, 0x00, 0x00, 0x00, 0x04,
 ];
-const HEX_MARKING: [u8; 16] = [
-    0x00, 0x00, 0x00, 0x01, 0xC0, 0x00, 0x00, 0x00, 0, 0, 0, 0, 0, 0, 0, 0,
+const HEX_MARKING: [u8; 24] = [
+    0x00, 0x00, 0x00, 0x01, 0xC0, 0x00, 0x00, 0x00, 0x00, 0x00, 0x00, 0x00, 0, 0, 0, 0, 0, 0, 0, 0,
+    0, 0, 0, 0,
 ];
-const HEX_AFTER: [u8; 16] = [
-    0x80, 0x00, 0x00, 0x03, 0xC0, 0x00, 0x00, 0x00, 0, 0, 0, 0, 0, 0, 0, 0,
+const HEX_AFTER: [u8; 24] = [
+    0x80, 0x00, 0x00, 0x03, 0xC0, 0x00, 0x00, 0x00, 0x00, 0x00, 0x00, 0x01, 0, 0, 0, 0, 0, 0, 0, 0,
+    0, 0, 0, 0,
 ];
 
 #[test]
@@ -216,18 +218,18 @@ fn p_the_hex_table_causes_0() {
     assert_eq!(answer.number, 0);
     assert_eq!(caused(&answer), [0]);
 
-    let mut image = [0; 16];
+    let mut image = [0; 24];
     assert_eq!(write_marking(&answer.marking, &mut image), 0);
     assert_eq!(image, HEX_AFTER);
 }
 
 #[test]
-fn the_station_writes_17_bytes() {
+fn the_station_writes_25_bytes() {
     let mut input = HEX_TABLE.to_vec();
     input.extend(HEX_MARKING);
     input.extend([0x03, 0x00]);
     let output = station(&input);
-    assert_eq!(output.len(), 17);
+    assert_eq!(output.len(), 25);
     assert_eq!(output[0], 0);
     assert_eq!(output[1..], HEX_AFTER);
 }

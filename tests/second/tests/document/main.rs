@@ -1,6 +1,8 @@
 //! Document 01 line by line, and of document 02 what has landed.
 
+mod carrying;
 mod closures;
+mod counts;
 mod examples;
 mod mistakes;
 mod order;

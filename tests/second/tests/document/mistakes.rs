@@ -55,6 +55,7 @@ fn a_response_to_itself_is_kept() {
     let after = request(&table, &fresh_marking(1), 0).marking;
     let expected = Record {
         happened: true,
+        count: 1,
         ..pending(4)
     };
     assert_eq!(after.records[0], expected);

@@ -126,10 +126,10 @@ fn the_table_before_the_marking() {
 #[test]
 fn for_a_marking_3_before_1_before_7() {
     assert_eq!(read_marking(0, &[1, 2, 3]).number, 3);
-    assert_eq!(read_marking(65, &[0; 65 * 8]).number, 3);
-    // Eight bytes of ones break the rules of a record.
-    assert_eq!(read_marking(1, &[255; 8]).number, 7);
-    assert_eq!(read_marking(1, &[255; 9]).number, 1);
+    assert_eq!(read_marking(65, &[0; 65 * 12]).number, 3);
+    // Twelve bytes of ones break the rules of a record.
+    assert_eq!(read_marking(1, &[255; 12]).number, 7);
+    assert_eq!(read_marking(1, &[255; 13]).number, 1);
     let bad_record = marking(&[pending(LIMIT + 1)]);
     assert_eq!(judge_marking(0, &bad_record), 3);
     assert_eq!(judge_marking(2, &bad_record), 1);
@@ -253,18 +253,18 @@ fn the_station_refuses_in_the_order_of_its_input() {
     // The table, before the marking that is missing.
     assert_eq!(station(&wrong_image), [5]);
     assert_eq!(station(&image), [1]);
-    assert_eq!(station(&input(&[&image, &[0; 7]])), [1]);
-    assert_eq!(station(&input(&[&image, &[255; 8]])), [7]);
+    assert_eq!(station(&input(&[&image, &[0; 11]])), [1]);
+    assert_eq!(station(&input(&[&image, &[255; 12]])), [7]);
     // The marking, before the odd byte; the odd byte before the length.
-    assert_eq!(station(&input(&[&image, &[255; 8], &[2]])), [7]);
-    assert_eq!(station(&input(&[&image, &[0; 8], &[2]])), [1]);
-    assert_eq!(station(&input(&[&image, &[0; 8], &[2; 8193]])), [1]);
-    assert_eq!(station(&input(&[&image, &[0; 8], &[2; 8194]])), [14]);
+    assert_eq!(station(&input(&[&image, &[255; 12], &[2]])), [7]);
+    assert_eq!(station(&input(&[&image, &[0; 12], &[2]])), [1]);
+    assert_eq!(station(&input(&[&image, &[0; 12], &[2; 8193]])), [1]);
+    assert_eq!(station(&input(&[&image, &[0; 12], &[2; 8194]])), [14]);
     // No steps: the marking alone.
-    assert_eq!(station(&input(&[&image, &[0; 8]])), [0; 8]);
+    assert_eq!(station(&input(&[&image, &[0; 12]])), [0; 12]);
     // Refused steps are answers, not refusals of the whole.
     assert_eq!(
-        station(&input(&[&image, &[0; 8], &[9, 9, 0, 0, 1, 0, 0, 1]])),
-        [15, 10, 9, 8, 0, 0, 0, 0, 0, 0, 0, 0]
+        station(&input(&[&image, &[0; 12], &[9, 9, 0, 0, 1, 0, 0, 1]])),
+        [15, 10, 9, 8, 0, 0, 0, 0, 0, 0, 0, 0, 0, 0, 0, 0]
     );
 }

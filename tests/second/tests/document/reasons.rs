@@ -187,6 +187,7 @@ fn needed_inhibitors_go_first_even_when_they_do_not_block() {
     let event_1 = Record {
         happened: true,
         age: 8,
+        count: 1,
         ..pending(0)
     };
     let answer = guarded_tick(&table, &marking(&[pending(0), event_1]));

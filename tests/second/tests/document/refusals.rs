@@ -87,7 +87,7 @@ fn number_1_a_length_is_wrong() {
     );
 
     let image = marking_image(&fresh_marking(2));
-    assert_eq!(read_marking(2, &image[..15]).number, 1);
+    assert_eq!(read_marking(2, &image[..23]).number, 1);
     assert_eq!(read_marking(1, &image).number, 1);
     assert_eq!(
         read_marking(3, &image),
@@ -162,9 +162,9 @@ fn number_3_counts_are_out_of_range() {
         let mut marking = fresh_marking(1);
         marking.events = events;
         assert_eq!(judge_marking(events, &marking), 3);
-        let mut buffer = [5; 8];
+        let mut buffer = [5; 12];
         assert_eq!(write_marking(&marking, &mut buffer), 3);
-        assert_eq!(buffer, [5; 8]);
+        assert_eq!(buffer, [5; 12]);
     }
     for count in [257, 300, 512, usize::MAX] {
         let mut table = one_event(&[]);
@@ -259,6 +259,17 @@ fn number_7_a_record_breaks_its_rules() {
             ..pending_eventually()
         },
         pending(LIMIT + 1),
+        // A count that disagrees with happened.
+        happened_often(0, 0),
+        happened_often(LIMIT, 0),
+        Record {
+            count: 1,
+            ..included()
+        },
+        Record {
+            count: u32::MAX,
+            ..pending(3)
+        },
     ];
     for record in wrong {
         let now = marking(&[record]);
@@ -270,9 +281,9 @@ fn number_7_a_record_breaks_its_rules() {
             }
         );
         assert_eq!(judge_marking(1, &now), 7);
-        let mut buffer = [5; 8];
+        let mut buffer = [5; 12];
         assert_eq!(write_marking(&now, &mut buffer), 7);
-        assert_eq!(buffer, [5; 8]);
+        assert_eq!(buffer, [5; 12]);
         every_call_refuses(&one_event(&[]), &now, 7);
     }
     // Values wider than their 30 bits, which no image can hold.
@@ -282,6 +293,7 @@ fn number_7_a_record_breaks_its_rules() {
     let right = [
         NO_RECORD,
         happened(LIMIT),
+        happened_often(0, u32::MAX),
         pending(LIMIT),
         pending_eventually(),
     ];
@@ -427,9 +439,11 @@ fn number_14_too_long_or_too_short() {
     let table = one_event(&[]);
     let now = fresh_marking(1);
 
-    let mut buffer = [5; 7];
-    assert_eq!(write_marking(&now, &mut buffer), 14);
-    assert_eq!(buffer, [5; 7]);
+    for short in [0, 8, 11] {
+        let mut buffer = [5; 11];
+        assert_eq!(write_marking(&now, &mut buffer[..short]), 14);
+        assert_eq!(buffer, [5; 11]);
+    }
 
     assert_eq!(remedies(&table, &now, &[0; 255], &[0; 255]).number, 0);
     assert_eq!(remedies(&table, &now, &[0; 256], &[]).number, 14);
@@ -497,6 +511,7 @@ fn unused_places_are_not_looked_at_and_are_kept() {
         included: true,
         pending: true,
         bounded: true,
+        count: 9,
     };
     now.records[63] = pending(0);
     assert_eq!(judge_table(&table), 0);

@@ -21,12 +21,12 @@ fn a_written_marking_reads_back() {
     for _ in 0..500 {
         let handed_in = generate::sound_pair(&mut rng).marking;
         let events = handed_in.events;
-        let mut buffer = vec![170; 8 * events + 3];
+        let mut buffer = vec![170; 12 * events + 3];
         assert_eq!(write_marking(&handed_in, &mut buffer), 0);
-        assert_eq!(buffer[8 * events..], [170; 3]);
-        assert_eq!(buffer[..8 * events], marking_image(&handed_in));
+        assert_eq!(buffer[12 * events..], [170; 3]);
+        assert_eq!(buffer[..12 * events], marking_image(&handed_in));
 
-        let read = read_marking(events, &buffer[..8 * events]);
+        let read = read_marking(events, &buffer[..12 * events]);
         assert_eq!(read.number, 0);
         assert_eq!(read.marking.events, events);
         assert_eq!(read.marking.records[..events], handed_in.records[..events]);
@@ -42,7 +42,7 @@ fn a_read_marking_writes_the_same_bytes() {
     let mut rng = Rng::new(12);
     for _ in 0..500 {
         let image = marking_image(&generate::sound_pair(&mut rng).marking);
-        let read = read_marking(image.len() / 8, &image);
+        let read = read_marking(image.len() / 12, &image);
         assert_eq!(read.number, 0);
         let mut written = vec![0; image.len()];
         assert_eq!(write_marking(&read.marking, &mut written), 0);
@@ -174,9 +174,9 @@ fn numbers_told_of_a_table_build_it_again() {
 #[test]
 fn a_fresh_marking_reads_back() {
     for events in 1..=64 {
-        let mut image = vec![255; 8 * events];
+        let mut image = vec![255; 12 * events];
         assert_eq!(write_marking(&fresh_marking(events), &mut image), 0);
-        assert_eq!(image, [0, 0, 0, 1, 0, 0, 0, 0].repeat(events));
+        assert_eq!(image, [0, 0, 0, 1, 0, 0, 0, 0, 0, 0, 0, 0].repeat(events));
         assert_eq!(read_marking(events, &image), fresh(events));
     }
 }

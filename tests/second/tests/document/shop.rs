@@ -67,6 +67,7 @@ pub const NO_RECORD: Record = Record {
     included: false,
     pending: false,
     bounded: false,
+    count: 0,
 };
 
 pub const NO_TABLE: Table = Table {
@@ -125,9 +126,9 @@ pub fn table_image(classes: &[Class], relations: &[Relation]) -> Vec<u8> {
     image
 }
 
-/// Eight bytes: happened 1, age 30, included 1, pending 1, bounded 1,
-/// deadline 30.
-pub fn record_image(record: &Record) -> [u8; 8] {
+/// As records were before there were counts, eight bytes: happened 1, age 30,
+/// included 1, pending 1, bounded 1, deadline 30.
+pub fn old_record_image(record: &Record) -> [u8; 8] {
     let mut value = u64::from(record.happened);
     value = value * 1_073_741_824 + u64::from(record.age);
     value = value * 2 + u64::from(record.included);
@@ -135,6 +136,21 @@ pub fn record_image(record: &Record) -> [u8; 8] {
     value = value * 2 + u64::from(record.bounded);
     value = value * 1_073_741_824 + u64::from(record.deadline);
     value.to_be_bytes()
+}
+
+/// Twelve bytes: those eight, then count 32.
+pub fn record_image(record: &Record) -> [u8; 12] {
+    let mut bytes = [0; 12];
+    bytes[..8].copy_from_slice(&old_record_image(record));
+    bytes[8..].copy_from_slice(&record.count.to_be_bytes());
+    bytes
+}
+
+pub fn old_marking_image(marking: &Marking) -> Vec<u8> {
+    marking.records[..marking.events]
+        .iter()
+        .flat_map(old_record_image)
+        .collect()
 }
 
 pub fn marking_image(marking: &Marking) -> Vec<u8> {
@@ -157,10 +173,16 @@ pub fn included() -> Record {
     }
 }
 
+/// Included, and happened once.
 pub fn happened(age: u32) -> Record {
+    happened_often(age, 1)
+}
+
+pub fn happened_often(age: u32, count: u32) -> Record {
     Record {
         happened: true,
         age,
+        count,
         ..included()
     }
 }

@@ -2,6 +2,8 @@
 //! only. Each promise says what is broken, so that a test can also show that
 //! it breaks.
 
+mod carrying;
+mod counts;
 mod tables;
 
 use second::case::{Answer, Case, Pair};
@@ -54,9 +56,11 @@ fn made(table: &Table, before: &Marking, after: &Marking) -> Promise {
 /// The effect of an event, target by target.
 fn effect(table: &Table, before: &Marking, event: usize) -> Marking {
     let mut after = *before;
+    let record = &before.records[event];
     after.records[event] = Record {
         happened: true,
-        included: before.records[event].included,
+        included: record.included,
+        count: counts::one_more(record.count),
         ..EMPTY_RECORD
     };
     let relations = &table.relations[..table.count];
@@ -162,7 +166,11 @@ const EMPTY_RECORD: Record = Record {
     included: false,
     pending: false,
     bounded: false,
+    count: 0,
 };
+
+/// The bytes of a record in a marking image.
+const RECORD: usize = 12;
 
 const EMPTY_MARKING: Marking = Marking {
     records: [EMPTY_RECORD; 64],
@@ -196,12 +204,13 @@ fn write_marking_promise(marking: &Marking, before: &[u8], number: u8, after: &[
     if number != 0 {
         holds(after == before, "a refused write left something")?;
         return holds(
-            number == judged || (judged == 0 && number == 14 && before.len() < 8 * marking.events),
+            number == judged
+                || (judged == 0 && number == 14 && before.len() < RECORD * marking.events),
             "a write is refused without cause",
         );
     }
     holds(judged == 0, "an unsound marking is written")?;
-    let length = 8 * marking.events;
+    let length = RECORD * marking.events;
     holds(
         after.len() == before.len() && after[length..] == before[length..],
         "later bytes are changed",
@@ -694,8 +703,10 @@ fn run_promise(
     made(table, marking, &end.marking)?;
 
     let mut now = **marking;
+    let mut history = counts::History::new(marking);
     for (step, &answer) in steps.iter().zip(after).take(REPLAYED) {
         let (number, made) = step_by_call(table, &now, step);
+        history.add(table, &now, step, answer);
         holds(
             answer == number,
             "a step is answered otherwise than its call",
@@ -704,6 +715,7 @@ fn run_promise(
     }
     if steps.len() <= REPLAYED {
         holds(end.marking == now, "the end marking is wrong")?;
+        history.promise(&end.marking)?;
     }
 
     if accepts(table, marking) {
@@ -776,7 +788,7 @@ fn station_promise(input: &[u8], output: &[u8]) -> Promise {
         return refused(read.number);
     }
     let rest = &input[length..];
-    let marking_length = rest.len().min(8 * events);
+    let marking_length = rest.len().min(RECORD * events);
     let start = read_marking(events, &rest[..marking_length]);
     if start.number != 0 {
         return refused(start.number);
@@ -789,7 +801,7 @@ fn station_promise(input: &[u8], output: &[u8]) -> Promise {
         return refused(14);
     }
     holds(
-        output.len() == steps.len() / 2 + 8 * events,
+        output.len() == steps.len() / 2 + RECORD * events,
         "the output has the wrong length",
     )?;
     let (answers, image) = output.split_at(steps.len() / 2);
@@ -937,6 +949,17 @@ pub fn promise(case: &Case, answer: &Answer) -> Promise {
                 place: after,
             },
         ) => tables::tell_class_promise(image, *event, *place, *number, *after),
+        (
+            Case::CarryMarking {
+                events,
+                old,
+                buffer,
+            },
+            Answer::Written {
+                number,
+                buffer: after,
+            },
+        ) => carrying::carry_marking_promise(*events, old, buffer, *number, after),
         _ => Err("the answer is to another call".to_string()),
     }
 }

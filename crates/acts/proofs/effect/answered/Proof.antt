@@ -13,7 +13,7 @@ use Rattle.acts.proofs.effect.answered.Tie as tie
 
 abbrev Inv-loop : tie.InvT-loop
 Inv-loop rows at links clock columns₀ next₀ seen₀ columns next seen =
-    (t : Table) (e : ℕ) → GoodTable t → Own t (t .count) e rows at links → length columns₀ ≡ 128 → Answering t e clock columns₀ next seen columns
+    (t : Table) (e : ℕ) → GoodTable t → Own t (t .count) e rows at links → length columns₀ ≡ 192 → Answering t e clock columns₀ next seen columns
 
 abbrev μ-loop : tie.MeasureT-loop
 μ-loop rows at links clock columns₀ next₀ seen₀ columns next seen = next

@@ -40,11 +40,17 @@ bounded-after-requires c κs = search needs
 element-write-sets-4 : tie.Need-element-write-sets-4
 element-write-sets-4 c = search needs
 
-add-columns : tie.Need-add-columns
-add-columns c = search needs
+add-place : tie.Need-add-place
+add-place c = search needs
 
-add-columns-2 : tie.Need-add-columns-2
-add-columns-2 c = search needs
+mul-counted : tie.Need-mul-counted
+mul-counted c = search needs
+
+element-copy-out-counted : tie.Need-element-copy-out-counted
+element-copy-out-counted c = search needs
+
+counted-requires : tie.Need-counted-requires
+counted-requires c κs = search needs
 
 mul-columns : tie.Need-mul-columns
 mul-columns c = search needs
@@ -52,17 +58,30 @@ mul-columns c = search needs
 element-write-columns : tie.Need-element-write-columns
 element-write-columns c = search needs
 
+add-columns : tie.Need-add-columns
+add-columns c = search needs
+
+add-columns-2 : tie.Need-add-columns-2
+add-columns-2 c = search needs
+
+mul-columns-2 : tie.Need-mul-columns-2
+mul-columns-2 c = search needs
+
+element-write-columns-2 : tie.Need-element-write-columns-2
+element-write-columns-2 c = search needs
+
 answered-requires : tie.Need-answered-requires
 answered-requires c κs = search needs
 
 returns : tie.Need-returns
 returns c t tail m good own exists stands =
-    let bounded = c .before .before in
+    let counted = c .before .before in
+    let bounded = counted .before .before in
     let pending = bounded .before in
     let included = pending .before in
-    effect-stands t good _ _ _ _ own exists tail _ _ _ m stands _ _ _ _ _
+    effect-stands t good _ _ _ _ own exists tail _ _ _ m stands _ _ _ _ _ _
     (included .before .adding .ensures) (included .included-after .ensures) (pending .pending-after .ensures) (bounded .bounded-after .ensures)
-    (c .answered .ensures t _ good own)
+    (counted .counted .ensures) (c .answered .ensures t _ good own)
 
 pub effect-spec : {M : Type 1} → statement M
 effect-spec =
@@ -80,9 +99,15 @@ effect-spec =
     element-write-sets-3
     bounded-after-requires
     element-write-sets-4
-    add-columns
-    add-columns-2
+    add-place
+    mul-counted
+    element-copy-out-counted
+    counted-requires
     mul-columns
     element-write-columns
+    add-columns
+    add-columns-2
+    mul-columns-2
+    element-write-columns-2
     answered-requires
     returns)

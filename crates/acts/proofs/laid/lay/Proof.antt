@@ -42,6 +42,15 @@ mul-columns-2 c = omega arith
 element-write-columns-2 : tie.Need-element-write-columns-2 Inv-loop μ-loop
 element-write-columns-2 c = omega arith
 
+add-columns-2 : tie.Need-add-columns-2 Inv-loop μ-loop
+add-columns-2 c = omega arith
+
+mul-columns-3 : tie.Need-mul-columns-3 Inv-loop μ-loop
+mul-columns-3 c = omega arith
+
+element-write-columns-3 : tie.Need-element-write-columns-3 Inv-loop μ-loop
+element-write-columns-3 c = omega arith
+
 with-if-requires : tie.Need-with-if-requires Inv-loop μ-loop
 with-if-requires c κs = omega arith
 
@@ -113,6 +122,9 @@ lay-spec =
     add-columns
     mul-columns-2
     element-write-columns-2
+    add-columns-2
+    mul-columns-3
+    element-write-columns-3
     with-if-requires
     with-if-requires-2
     with-if-requires-3

@@ -1,9 +1,8 @@
 -- Each field is read where it stands. Assumes nothing.
-use mathlib.Core.Path.{_≡_, _∙_, sym}
+use mathlib.Core.Path.{_≡_, refl, _∙_}
 use mathlib.Core.Bool.{cond}
 use mathlib.Core.Logic.{⊎-elim}
-use Prim.Native.Nat.{ℕ}
-use Rattle.acts.specs.Stands.{ageAt, ticksAt, recordIn}
+use Rattle.acts.specs.Stands.{ageAt, ticksAt}
 use Rattle.acts.specs.Laws.Laid.{record-read}
 use borrow.Author.Needs.{needs}
 use Rattle.acts.proofs.laid.record_at.Statement.{statement}
@@ -11,33 +10,19 @@ use Rattle.acts.proofs.laid.record_at.Tie as tie
 
 -- the age, of an event that has happened; 0 of another
 age-read : (c : tie.Joined1)
-    → let first = c .before .before .before .before .before .before .before in
+    → let third = c .before .before .before in
+    let first = third .before .before .before .before in
     let s = first .before .before in
     c .if1 .age ≡ cond (first .has-event .result) (ageAt (s .args .clock) (s .args .columns .now) (s .args .e)) 0
 age-read c = ⊎-elim (λ w. w .2 ∙ w .1 .ensures ∙ rw (w .0 .taken)) (λ w. w .1 ∙ rw (w .0 .left)) (c .if1 .came)
 
--- all but the deadline
-record-but : (c : tie.Joined1) (deadline : ℕ)
-    → let fourth = c .before in
-    let third = fourth .before .before in
-    let second = third .before .before in
-    let first = second .before .before in
-    let s = first .before .before in
-    deadline ≡ cond (fourth .has-event4 .result) (ticksAt (s .args .clock) (s .args .columns .now) (s .args .e)) 0
-    → record {
-      age = c .if1 .age;
-      deadline = deadline;
-      happened = first .has-event .result;
-      included = second .has-event2 .result;
-      pending = third .has-event3 .result;
-      bounded = fourth .has-event4 .result;
-    } ≡ recordIn (s .args .clock) (s .args .sets .now) (s .args .columns .now) (s .args .e)
-record-but c deadline d =
-    let fourth = c .before in
-    let third = fourth .before .before in
-    let second = third .before .before in
-    record-read _ _ _ _ _ deadline _ _ _ _ (second .before .before .has-event .ensures) (second .has-event2 .ensures) (third .has-event3 .ensures)
-    (fourth .has-event4 .ensures) (age-read c) d
+-- the ticks, of a bounded event; 0 of another
+ticks-read : (c : tie.Joined2)
+    → let fourth = c .before .before in
+    let second = fourth .before .before .before .before in
+    let s = second .before .before .before .before in
+    c .if2 .deadline ≡ cond (fourth .has-event4 .result) (ticksAt (s .args .clock) (s .args .columns .now) (s .args .e)) 0
+ticks-read c = ⊎-elim (λ w. w .3 ∙ w .2 .ensures ∙ rw (w .0 .taken)) (λ w. w .1 ∙ rw (w .0 .left)) (c .if2 .came)
 
 element-copy-out-has-event : tie.Need-element-copy-out-has-event
 element-copy-out-has-event c = search needs
@@ -78,11 +63,22 @@ element-copy-out-to-go c = search needs
 to-go-requires : tie.Need-to-go-requires
 to-go-requires c κs = search needs
 
-returns : tie.Need-returns
-returns c = let j = c .before .before .before in record-but j _ (c .to-go .ensures ∙ sym (rw (c .before .before .if2 .taken)))
+add-count : tie.Need-add-count
+add-count c = search needs
 
-returns-2 : tie.Need-returns-2
-returns-2 c = record-but (c .before) 0 (sym (rw (c .if2 .left)))
+mul-count : tie.Need-mul-count
+mul-count c = search needs
+
+element-copy-out-count : tie.Need-element-copy-out-count
+element-copy-out-count c = search needs
+
+returns : tie.Need-returns
+returns c =
+    let fourth = c .before .before .before in
+    let third = fourth .before .before in
+    let second = third .before .before in
+    record-read _ _ _ _ _ _ _ _ _ _ _ (second .before .before .has-event .ensures) (second .has-event2 .ensures) (third .has-event3 .ensures)
+    (fourth .has-event4 .ensures) (age-read (c .before .before)) (ticks-read (c .before)) refl
 
 pub record-at-spec : {M : Type 1} → statement M
 record-at-spec =
@@ -101,5 +97,7 @@ record-at-spec =
     mul-to-go
     element-copy-out-to-go
     to-go-requires
-    returns
-    returns-2)
+    add-count
+    mul-count
+    element-copy-out-count
+    returns)

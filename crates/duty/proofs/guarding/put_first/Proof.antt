@@ -4,7 +4,7 @@ use mathlib.Core.List.{List, _++_}
 use Prim.Native.Nat.{ℕ, _≤_, _-_}
 use native.Mathlib.Omega.{arith}
 use lib.ListN.{length, take, drop, getD, set, length-set}
-use Rattle.duty.specs.Laws.Guarded.{put-more}
+use Rattle.duty.specs.Laws.Placed.{put-more}
 use Rattle.duty.proofs.guarding.put_first.Statement.{statement}
 use Rattle.duty.proofs.guarding.put_first.Tie as tie
 

@@ -1,74 +1,34 @@
--- Five places are written one by one, and the others stay. Assumes nothing.
-use mathlib.Core.Path.{_≡_, _∙_}
-use mathlib.Core.List.{List, [], _∷_, _++_}
-use Prim.Native.Nat.{ℕ, _≤_}
-use native.Mathlib.Omega.{arith}
-use lib.ListN.{length, take, drop}
-use mir.Val.{boolByte}
+-- The five numbers are those of the relation, its flag as the machine has it. Assumes nothing.
 use borrow.Author.Needs.{needs}
-use Rattle.rules.specs.declared.Relation.{Relation}
-use Rattle.rules.specs.Building.{numbersFrom}
 use Rattle.image.specs.Laws.Packed.{flag-byte}
-use Rattle.duty.specs.Laws.Placed.{placed, placed-length, placed-all}
 use Rattle.duty.proofs.tabling.put_numbers.Statement.{statement}
 use Rattle.duty.proofs.tabling.put_numbers.Tie as tie
 
--- the places keep their number while they are put
-module _ (k : Relation) (l : List ℕ) where
-  abbrev values : List ℕ
-  values = k .kind ∷ k .left ∷ k .right ∷ boolByte (k .bounded) ∷ k .time ∷ []
+cast-t4 : tie.Need-cast-t4
+cast-t4 c = search needs
 
-  long : (n : ℕ) → length (placed 0 (take n values) l) ≡ length l
-  long n = placed-length 0 (take n values) l
+cast-t5 : tie.Need-cast-t5
+cast-t5 c = search needs
 
-  told : 5 ≤ length l → placed 0 values l ≡ numbersFrom k ++ drop 5 l
-  told h = placed-all values l h ∙ rw (flag-byte (k .bounded))
+cast-t6 : tie.Need-cast-t6
+cast-t6 c = search needs
 
-cast-numbers : tie.Need-cast-numbers
-cast-numbers c = search needs
+cast-t7 : tie.Need-cast-t7
+cast-t7 c = search needs
 
-slice-write-numbers : tie.Need-slice-write-numbers
-slice-write-numbers c = search needs
+slice-aggregate-put : tie.Need-slice-aggregate-put
+slice-aggregate-put c = search needs
 
-cast-numbers-2 : tie.Need-cast-numbers-2
-cast-numbers-2 c = search needs
-
-slice-write-numbers-2 : tie.Need-slice-write-numbers-2
-slice-write-numbers-2 c = let s = c .before .before in omega (arith, long (s .args .k) (s .args .numbers .now) 1, s .pre)
-
-cast-numbers-3 : tie.Need-cast-numbers-3
-cast-numbers-3 c = search needs
-
-slice-write-numbers-3 : tie.Need-slice-write-numbers-3
-slice-write-numbers-3 c = let s = c .before .before .before in omega (arith, long (s .args .k) (s .args .numbers .now) 2, s .pre)
-
-cast-numbers-4 : tie.Need-cast-numbers-4
-cast-numbers-4 c = search needs
-
-slice-write-numbers-4 : tie.Need-slice-write-numbers-4
-slice-write-numbers-4 c = let s = c .before .before .before .before in omega (arith, long (s .args .k) (s .args .numbers .now) 3, s .pre)
-
-slice-write-numbers-5 : tie.Need-slice-write-numbers-5
-slice-write-numbers-5 c = search needs
+put-requires : tie.Need-put-requires
+put-requires c κs = search needs
 
 same-length : tie.Need-same-length
 same-length c = search needs
 
 returns : tie.Need-returns
-returns c = let s = c .before .before .before .before in told (s .args .k) (s .args .numbers .now) (s .pre)
+returns c = simp flag-byte at (c .before .before .put .ensures)
 
 pub put-numbers-spec : {M : Type 1} → statement M
 put-numbers-spec =
     tie.close
-    (tie.spec
-    cast-numbers
-    slice-write-numbers
-    cast-numbers-2
-    slice-write-numbers-2
-    cast-numbers-3
-    slice-write-numbers-3
-    cast-numbers-4
-    slice-write-numbers-4
-    slice-write-numbers-5
-    same-length
-    returns)
+    (tie.spec cast-t4 cast-t5 cast-t6 cast-t7 slice-aggregate-put put-requires same-length returns)

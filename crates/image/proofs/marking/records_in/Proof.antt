@@ -16,8 +16,6 @@ use Rattle.rules.specs.Judge.{recordNumber}
 use Rattle.rules.specs.Image.{recordAt, recordBit}
 use Rattle.rules.specs.Laws.Counting.{filled-none, filled-more}
 use Rattle.rules.specs.Laws.Numbers.{first-none, first-more, first-here}
-use Rattle.image.specs.Packed.{recordOfWord}
-use Rattle.image.specs.Laws.Packed.{record-parts}
 use Rattle.image.proofs.marking.records_in.Statement.{statement}
 use Rattle.image.proofs.marking.records_in.Tie as tie
 
@@ -36,6 +34,9 @@ Inv-loop events image records₀ i₀ records i =
 abbrev μ-loop : tie.MeasureT-loop
 μ-loop events image records₀ i₀ records i = events - i
 
+abbrev start : tie.At-loop Inv-loop μ-loop → tie.Start Inv-loop μ-loop
+start c = c .before .before .before .before
+
 empty-requires : tie.Need-empty-requires Inv-loop μ-loop
 empty-requires c κs = search needs
 
@@ -43,26 +44,22 @@ loop-holds : tie.Need-loop-holds Inv-loop μ-loop
 loop-holds c =
     (search needs, ap (λ (m : Marking). m .records) (c .before .empty .ensures) ∙ filled-none _ emptyRecord mostEvents, first-none _)
 
-mul-word : tie.Need-mul-word Inv-loop μ-loop
-mul-word c = omega arith
+mul-record-at : tie.Need-mul-record-at Inv-loop μ-loop
+mul-record-at c = omega arith
 
-word-requires : tie.Need-word-requires Inv-loop μ-loop
-word-requires c κs = omega arith
-
-record-of-requires : tie.Need-record-of-requires Inv-loop μ-loop
-record-of-requires c κs = search needs
+record-at-requires : tie.Need-record-at-requires Inv-loop μ-loop
+record-at-requires c κs = omega arith
 
 record-number-requires : tie.Need-record-number-requires Inv-loop μ-loop
 record-number-requires c κs = search needs
 
 -- the record that a turn reads, and its number
-read : (c : tie.After-record-of Inv-loop μ-loop)
-    → c .record-of .result ≡ recordIn (c .before .before .before .before .before .before .before .args .image .now) (c .before .before .before .loop .i)
-read c = c .record-of .ensures ∙ ap recordOfWord (c .before .word .ensures) ∙ record-parts _ _
+read : (c : tie.After-record-at Inv-loop μ-loop)
+    → c .record-at .result ≡ recordIn (start (c .before .before) .args .image .now) (c .before .before .loop .i)
+read c = c .record-at .ensures
 
 number : (c : tie.After-record-number Inv-loop μ-loop)
-    → c .record-number .result ≡ numberIn (c .before .before .before .before .before .before .before .before .args .image .now)
-    (c .before .before .before .before .loop .i)
+    → c .record-number .result ≡ numberIn (start (c .before .before .before) .args .image .now) (c .before .before .before .loop .i)
 number c = c .record-number .ensures ∙ ap recordNumber (read (c .before))
 
 refused-requires : tie.Need-refused-requires Inv-loop μ-loop
@@ -70,11 +67,11 @@ refused-requires c κs = search needs
 
 returns : tie.Need-returns Inv-loop μ-loop
 returns c =
-    let here = number (c .before .before) in
+    let met = c .before .before in
+    let here = number met in
+    let at = met .before .before .before in
     let first =
-    first-here _ (c .before .before .before .before .before .before .before .before .before .before .args .events)
-    (c .before .before .before .before .before .before .loop .i) (omega arith) (c .before .before .before .before .before .before .loop .inv .2)
-    (λ z. c .before .if1 .taken (here ∙ z)) ∙ sym here in
+    first-here _ (start at .args .events) (at .loop .i) (omega arith) (at .loop .inv .2) (λ z. c .before .if1 .taken (here ∙ z)) ∙ sym here in
     c .refused .ensures ∙ rw (first, ne-eqb _ _ (c .before .if1 .taken))
 
 mul-records : tie.Need-mul-records Inv-loop μ-loop
@@ -91,17 +88,16 @@ loop-less c = omega arith
 
 loop-again : tie.Need-loop-again Inv-loop μ-loop
 loop-again c =
-    let i = c .before .before .before .before .before .loop .i in (
+    let at = c .before .before .before .before in
+    let i = at .loop .i in (
       omega arith,
-      rw (c .before .before .before .before .before .loop .inv .1, read (c .before .before))
-          (filled-more (recordIn (c .before .before .before .before .before .before .before .before .before .args .image .now)) emptyRecord mostEvents i
-          (omega arith)),
-      first-more _ i (c .before .before .before .before .before .loop .inv .2) (sym (number (c .before)) ∙ c .if1 .left),
+      rw (at .loop .inv .1, read (c .before .before)) (filled-more (recordIn (start at .args .image .now)) emptyRecord mostEvents i (omega arith)),
+      first-more _ i (at .loop .inv .2) (sym (number (c .before)) ∙ c .if1 .left),
     )
 
 returns-2 : tie.Need-returns-2 Inv-loop μ-loop
 returns-2 c =
-    let e : c .before .loop .i ≡ c .before .before .before .before .before .args .events = omega arith in
+    let e : c .before .loop .i ≡ start (c .before) .args .events = omega arith in
     let first = rw e at (c .before .loop .inv .2) in
     rw (c .before .loop .inv .1, e, first)
 
@@ -113,9 +109,8 @@ records-in-spec =
     μ-loop
     empty-requires
     loop-holds
-    mul-word
-    word-requires
-    record-of-requires
+    mul-record-at
+    record-at-requires
     record-number-requires
     refused-requires
     returns
