@@ -337,20 +337,14 @@ fn bad_guarded_answers(case: &Case, good: &GuardedAnswer) -> Vec<(&'static str, 
     bad
 }
 
-/// The promises can fail: answers of bad engines break them.
-#[test]
-fn bad_guarded_ticks_are_noticed() {
+/// The promises can fail: bad answers put to them break them. So many kinds come
+/// up, each five times or more, and none is missed.
+fn all_noticed(kinds: usize, bad_of: impl Fn(&Case, &Answer) -> Vec<(&'static str, Answer)>) {
     let mut noticed = Counts::new();
     let mut missed = Counts::new();
     for_each_case(|case, answer| {
-        let Answer::Guarded(good) = answer else {
-            return;
-        };
-        if good.number != 0 && good.number != 12 {
-            return;
-        }
-        for (name, bad) in bad_guarded_answers(case, good) {
-            match promise(case, &Answer::Guarded(Box::new(bad))) {
+        for (name, bad) in bad_of(case, answer) {
+            match promise(case, &bad) {
                 Err(_) => count(&mut noticed, name),
                 Ok(()) => count(&mut missed, name),
             }
@@ -358,7 +352,28 @@ fn bad_guarded_ticks_are_noticed() {
     });
     println!("noticed: {noticed:?}, missed: {missed:?}");
     assert!(missed.is_empty(), "{missed:?}");
-    assert_eq!(noticed.len(), 6);
+    assert_eq!(noticed.len(), kinds);
+    assert!(noticed.values().all(|&times| times >= 5), "{noticed:?}");
+}
+
+/// Of bad writers: a number and a buffer.
+fn written(bad: Vec<(&'static str, u8, Vec<u8>)>) -> Vec<(&'static str, Answer)> {
+    bad.into_iter()
+        .map(|(name, number, buffer)| (name, Answer::Written { number, buffer }))
+        .collect()
+}
+
+#[test]
+fn bad_guarded_ticks_are_noticed() {
+    all_noticed(6, |case, answer| match answer {
+        Answer::Guarded(good) if good.number == 0 || good.number == 12 => {
+            bad_guarded_answers(case, good)
+                .into_iter()
+                .map(|(name, bad)| (name, Answer::Guarded(Box::new(bad))))
+                .collect()
+        }
+        _ => Vec::new(),
+    });
 }
 
 /// The image of a table over as much of a buffer as there is, whatever stands
@@ -416,30 +431,16 @@ fn bad_written_tables(
 
 #[test]
 fn bad_table_writers_are_noticed() {
-    let mut noticed = Counts::new();
-    let mut missed = Counts::new();
-    for_each_case(|case, answer| {
-        let (
+    all_noticed(10, |case, answer| match (case, answer) {
+        (
             Case::WriteTable {
                 table,
                 buffer: before,
             },
             Answer::Written { number, buffer },
-        ) = (case, answer)
-        else {
-            return;
-        };
-        for (name, number, buffer) in bad_written_tables(table, before, *number, buffer) {
-            match promise(case, &Answer::Written { number, buffer }) {
-                Err(_) => count(&mut noticed, name),
-                Ok(()) => count(&mut missed, name),
-            }
-        }
+        ) => written(bad_written_tables(table, before, *number, buffer)),
+        _ => Vec::new(),
     });
-    println!("noticed: {noticed:?}, missed: {missed:?}");
-    assert!(missed.is_empty(), "{missed:?}");
-    assert_eq!(noticed.len(), 10);
-    assert!(noticed.values().all(|&times| times >= 5), "{noticed:?}");
 }
 
 /// Numbers cut down to their fields before they are judged, as a careless

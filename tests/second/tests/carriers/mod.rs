@@ -1,7 +1,6 @@
 //! The answers of bad carriers put to the promises.
 
-use super::promises::promise;
-use super::{count, for_each_case, Counts};
+use super::{all_noticed, written};
 use second::case::{Answer, Case};
 use second::{OLD_RECORD_BYTES, RECORD_BYTES};
 
@@ -55,29 +54,15 @@ fn bad_carried(
 
 #[test]
 fn bad_carriers_are_noticed() {
-    let mut noticed = Counts::new();
-    let mut missed = Counts::new();
-    for_each_case(|case, answer| {
-        let (
+    all_noticed(10, |case, answer| match (case, answer) {
+        (
             Case::CarryMarking {
                 old,
                 buffer: before,
                 ..
             },
             Answer::Written { number, buffer },
-        ) = (case, answer)
-        else {
-            return;
-        };
-        for (name, number, buffer) in bad_carried(old, before, *number, buffer) {
-            match promise(case, &Answer::Written { number, buffer }) {
-                Err(_) => count(&mut noticed, name),
-                Ok(()) => count(&mut missed, name),
-            }
-        }
+        ) => written(bad_carried(old, before, *number, buffer)),
+        _ => Vec::new(),
     });
-    println!("noticed: {noticed:?}, missed: {missed:?}");
-    assert!(missed.is_empty(), "{missed:?}");
-    assert_eq!(noticed.len(), 10);
-    assert!(noticed.values().all(|&times| times >= 5), "{noticed:?}");
 }
