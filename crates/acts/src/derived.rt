@@ -103,7 +103,8 @@ fn link(before: u64, k: Relation) -> u64
     before + 512 * k.right as u64 + 32_768 * k.time as u64
 }
 
-// One relation more, number i: it is noted in the row of its left event, which stands from `at` on, and linked if it is in a chain.
+// One relation more, number i: it is noted in the row of its left event, which stands from `at` on, and linked if it is in a chain. Its word is
+// read last, where it is stored: so small, the compiler puts this pass into each call that makes it, and no copy of the table stays for it.
 fn note(rows: &mut [u64], at: usize, links: &mut [u64; 256], i: usize, k: Relation)
     requires { ⌜ (at + 10 ≤ length (now rows)) × (i < 256) ⌝ }
     requires { ⌜ (k .right < 64) × (k .time < 1073741824) ⌝ }
@@ -113,13 +114,12 @@ fn note(rows: &mut [u64], at: usize, links: &mut [u64; 256], i: usize, k: Relati
     let sort = sort(k);
     let place = at + sort;
     let begins = chain(sort);
-    let row = rows[place];
     if begins < WIDTH {
         let first = at + begins;
         links[i] = link(rows[first] % 512, k);
         rows[first] = i as u64 + 1;
     }
-    rows[place] = word::adding(row, k.right as usize);
+    rows[place] = word::adding(rows[place], k.right as usize);
 }
 
 // The rows and the links of a table.
@@ -135,6 +135,22 @@ pub fn derived(t: Table, rows: &mut [u64; 640], links: &mut [u64; 256])
         let k = t.relations[i];
         let at = WIDTH * k.left as usize;
         note(rows, at, links, i, k);
+        i += 1;
+    }
+}
+
+// The rows alone, for the check: it walks no chain, and needs no room for links.
+pub fn rows_of(t: Table, rows: &mut [u64; 640])
+    requires { ⌜ GoodTable t ⌝ }
+    requires { ⌜ now rows ≡ replicate 640 0 ⌝ }
+    ensures { λ _. ⌜ Derived t (t .count) (now (rows .exit)) ⌝ }
+{
+    let n = t.count;
+    let mut i = 0;
+    while i < n {
+        let k = t.relations[i];
+        let place = WIDTH * k.left as usize + sort(k);
+        rows[place] = word::adding(rows[place], k.right as usize);
         i += 1;
     }
 }

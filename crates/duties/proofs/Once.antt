@@ -13,10 +13,9 @@ use Rattle.duties.specs.Inhibition.{Reached}
 use Rattle.duties.specs.Reasons.{Led}
 use Rattle.duties.specs.Taking.{Awaits}
 
--- `reached`: each of the two lies in the other
-pub reached-once : {rows : List ℕ} {conditions milestones set r s : ℕ} → Reached rows conditions milestones set r → Reached rows conditions milestones set s
-    → r ≡ s
-reached-once {rows} {conditions} {milestones} {set} {r} {s} p q =
+-- `reached` and `with_inhibitors`: each of the two lies in the other
+pub reached-once : {word : ℕ → ℕ} {set r s : ℕ} → Reached word set r → Reached word set s → r ≡ s
+reached-once {word} {set} {r} {s} p q =
     same-word r s (λ x. same-test (has r x) (has s x) (p .within (has s) (q .starts) (q .on) x) (q .within (has r) (p .starts) (p .on) x))
 
 -- `led_to`; `held`, `ready` and `freed` are told by their members alone (acts, `members-once`)

@@ -2,6 +2,7 @@
 pub mod Search
 pub mod Reached
 pub mod Followed
+pub mod Noted
 pub mod Cleared
 pub mod Ends
 pub mod Sets

@@ -1,6 +1,6 @@
 -- The reasons of the static check that lie with a relation, as they are looked for in one pass.
 use mathlib.Core.Path.{_≡_}
-use mathlib.Core.Bool.{Bool, not, _&&_}
+use mathlib.Core.Bool.{Bool, true, not, _&&_, cond}
 use mathlib.Core.List.{List}
 use Prim.Native.Nat.{ℕ}
 use lib.Dec.{eqb, ltb}
@@ -10,10 +10,8 @@ use Rattle.rules.specs.declared.CheckAnswer.{CheckAnswer}
 use Rattle.rules.specs.declared.CheckAnswer.the-variants.{Accepts, Rejects}
 use Rattle.rules.specs.Counting.{some, lowest}
 use Rattle.rules.specs.EventSet.{has}
-use Rattle.rules.specs.Holds.{isCondition, isResponse, isInclusion, relationOf}
+use Rattle.rules.specs.Holds.{isCondition, isInclusion, relationOf}
 use Rattle.rules.specs.Check.{uncausable, waiting, onCycle, reopening, reviving, reason}
-use Rattle.duties.specs.declared.reasons.Reason.{Reason}
-use Rattle.duties.specs.declared.reasons.Reason.the-variants.{Waiting, Reopening, Reviving}
 use Rattle.duties.specs.declared.reasons.Finding.{Finding}
 use Rattle.duties.specs.declared.reasons.Finding.the-variants as Finding
 use Rattle.duties.specs.declared.reasons.Finding.the-variants.{Event}
@@ -27,33 +25,25 @@ Led rows s set w = (x : ℕ) → has w x ≡ some 64 (ledTo rows s set x)
 abbrev pub Ends : Table → (ℕ → Bool) → ℕ → Type 0
 Ends t f w = (x : ℕ) → has w x ≡ some (t .count) (λ k. f k && eqb (relationOf t k .right) x)
 
--- of a relation with its left in the closure: a condition of some time; a response to a milestone of the closure; an inclusion of another
--- closure event
-abbrev pub suits : Reason → ℕ → ℕ → Relation → Bool
-suits Waiting closed milestones k = isCondition k && ltb 0 (k .time)
-suits Reopening closed milestones k = isResponse k && has milestones (k .right)
-suits Reviving closed milestones k = isInclusion k && (has closed (k .right) && not (eqb (k .left) (k .right)))
+-- a relation that a reason can lie with: a condition if it has a time, an inclusion if it is of another event, and each of another kind
+abbrev pub matters : Relation → Bool
+matters k = cond (isCondition k) (ltb 0 (k .time)) (cond (isInclusion k) (not (eqb (k .left) (k .right))) true)
 
-abbrev pub applies : Reason → ℕ → ℕ → Relation → Bool
-applies what closed milestones k = has closed (k .left) && suits what closed milestones k
+-- one of a kind of a set of kinds, from an event of a set to one of a set
+abbrev pub applies : ℕ → ℕ → ℕ → Relation → Bool
+applies kinds lefts rights k = has kinds (k .kind) && (has lefts (k .left) && (has rights (k .right) && matters k))
 
-abbrev pub isReason : Table → Reason → ℕ → ℕ → ℕ → Bool
-isReason t what closed milestones k = applies what closed milestones (relationOf t k)
+abbrev pub isReason : Table → ℕ → ℕ → ℕ → ℕ → Bool
+isReason t kinds lefts rights k = applies kinds lefts rights (relationOf t k)
 
-unfoldable pub firstReason : Table → Reason → ℕ → ℕ → ℕ
-firstReason t what closed milestones = lowest (t .count) (isReason t what closed milestones)
-
--- the number of a reason that lies with a relation
-abbrev pub numberOf : Reason → ℕ
-numberOf Waiting = 3
-numberOf Reopening = 5
-numberOf Reviving = 6
+unfoldable pub firstReason : Table → ℕ → ℕ → ℕ → ℕ
+firstReason t kinds lefts rights = lowest (t .count) (isReason t kinds lefts rights)
 
 -- the verdict that a finding comes to, with the relation looked for
 abbrev pub verdictBy : Table → Finding → CheckAnswer
 verdictBy t Finding.Accepts = Accepts
 verdictBy t (Event reason place) = Rejects reason place
-verdictBy t (Finding.Relation what closed milestones) = Rejects (numberOf what) (firstReason t what closed milestones)
+verdictBy t (Finding.Relation reason kinds lefts rights) = Rejects reason (firstReason t kinds lefts rights)
 
 -- what the reasons after the first say, of a closure
 unfoldable pub verdictOf : Table → ℕ → CheckAnswer

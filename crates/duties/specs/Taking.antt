@@ -10,7 +10,7 @@ use Rattle.rules.specs.declared.GuardedAnswer.{GuardedAnswer}
 use Rattle.rules.specs.EventSet.{has}
 use Rattle.rules.specs.Effect.{effect}
 use Rattle.rules.specs.Guard.{goesAhead}
-use Rattle.duties.specs.Inhibition.{inhibitorsIn}
+use Rattle.duties.specs.Inhibition.{followedIn}
 
 -- an answer with the events that were executed, places past them 0
 abbrev pub answered : ℕ → ℕ → ℕ → List ℕ → Marking → GuardedAnswer
@@ -57,4 +57,4 @@ TakenOne t m e before count after now stands =
 -- of each event of a set: which events of the set wait for it
 abbrev pub Awaits : List ℕ → ℕ → List ℕ → Type 0
 Awaits rows set waiting =
-    (x : ℕ) → x < 64 → (e : ℕ) → has (getD waiting x 0) e ≡ (has set e && has (inhibitorsIn rows set set e) x)
+    (x : ℕ) → x < 64 → (e : ℕ) → has (getD waiting x 0) e ≡ (has set e && has (followedIn rows set set e) x)

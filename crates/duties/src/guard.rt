@@ -1,5 +1,5 @@
 // The guarded tick, over the words of table and marking.
-use crate::inhibition;
+use crate::following;
 use crate::ready;
 use acts::derived;
 use acts::effect;
@@ -20,7 +20,25 @@ ghost use Rattle.rules.specs.Shapes.Good.{GoodTable, Good};
 ghost use Rattle.acts.specs.Derived.{Derived, Linked};
 ghost use Rattle.acts.specs.Stands.{Stands};
 ghost use Rattle.duties.specs.AtStart.{AtStart};
+ghost use Rattle.duties.specs.Inhibition.{followedIn, Reached};
 ghost use Rattle.duties.specs.Taking.{TakenOne};
+
+// A set and, repeatedly, the inhibitors that hold its events back, where these are missing or pending. An event's are looked up in its row when
+// it is opened: few are.
+fn with_inhibitors(rows: &[u64], missing: u64, pending: u64, set: u64) -> u64
+    requires { ⌜ length (now rows) ≡ 640 ⌝ }
+    ensures { λ r. ⌜ Reached (followedIn (now (rows .entry)) missing pending) set r ⌝ }
+{
+    let mut found = set;
+    let mut unopened = set;
+    while unopened != 0 {
+        let e = word::lowest(unopened);
+        let more = word::without(following::followed(rows, missing, pending, e), found);
+        found = found | more;
+        unopened = (unopened - (1 << e)) | more;
+    }
+    found
+}
 
 // The due events and, repeatedly, the inhibitors that hold them back; with nothing due there is nothing to look for.
 fn needed(rows: &[u64], clock: u32, sets: &[u64; 4], columns: &Columns, n: usize) -> u64
@@ -35,7 +53,7 @@ fn needed(rows: &[u64], clock: u32, sets: &[u64; 4], columns: &Columns, n: usize
     let included = sets[laid::INCLUDED];
     let missing = word::without(included, sets[laid::HAPPENED]);
     let pending = included & sets[laid::PENDING];
-    inhibition::reached(rows, missing, pending, due)
+    with_inhibitors(rows, missing, pending, due)
 }
 
 // An event is executed and noted if included at that moment, else skipped.

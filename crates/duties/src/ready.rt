@@ -1,5 +1,5 @@
 // The needed events that are ready to be taken, kept up to date from one to the next.
-use crate::inhibition;
+use crate::following;
 use acts::word;
 ghost use mathlib.Core.Path.{_≡_};
 ghost use mathlib.Core.Bool.{_&&_, cond};
@@ -8,7 +8,7 @@ ghost use lib.Dec.{eqb};
 ghost use lib.ListN.{length, getD, replicate};
 ghost use Rattle.rules.specs.EventSet.{has};
 ghost use Rattle.rules.specs.Shapes.Sets.{withEvent};
-ghost use Rattle.duties.specs.Inhibition.{inhibitorsIn, readyIn};
+ghost use Rattle.duties.specs.Inhibition.{followedIn, readyIn};
 ghost use Rattle.duties.specs.Taking.{Awaits};
 
 // An event waits for each of the events of a set.
@@ -37,7 +37,7 @@ pub fn ready(rows: &[u64], set: u64, waiting: &mut [u64; 64]) -> u64
     let mut left = set;
     while left != 0 {
         let e = word::lowest(left);
-        let inhibitors = inhibition::inhibitors(rows, set, set, e);
+        let inhibitors = following::followed(rows, set, set, e);
         if inhibitors == 0 {
             found = word::adding(found, e);
         }
@@ -50,13 +50,13 @@ pub fn ready(rows: &[u64], set: u64, waiting: &mut [u64; 64]) -> u64
 // Of the events that waited for one that is now taken, those that have no inhibitor left among the untaken.
 pub fn freed(rows: &[u64], waited: u64, untaken: u64) -> u64
     requires { ⌜ length (now rows) ≡ 640 ⌝ }
-    ensures { λ r. ⌜ ((x : ℕ) → has r x ≡ (has waited x && eqb (inhibitorsIn (now (rows .entry)) untaken untaken x) 0)) ⌝ }
+    ensures { λ r. ⌜ ((x : ℕ) → has r x ≡ (has waited x && eqb (followedIn (now (rows .entry)) untaken untaken x) 0)) ⌝ }
 {
     let mut found = 0;
     let mut left = waited;
     while left != 0 {
         let e = word::lowest(left);
-        if inhibition::inhibitors(rows, untaken, untaken, e) == 0 {
+        if following::followed(rows, untaken, untaken, e) == 0 {
             found = word::adding(found, e);
         }
         left -= 1 << e;

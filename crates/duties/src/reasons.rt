@@ -1,4 +1,5 @@
 // The reasons of the static check, over the words of table and marking.
+use crate::following;
 use crate::inhibition;
 use acts::derived;
 use acts::derived::Head;
@@ -9,105 +10,72 @@ use rules::CheckAnswer;
 use rules::Relation;
 use rules::Table;
 ghost use mathlib.Core.Path.{_≡_};
-ghost use mathlib.Core.Bool.{_&&_, not};
 ghost use mathlib.Core.List.{List};
 ghost use Prim.Native.Nat.{ℕ, _<_, _≤_, _^_};
-ghost use lib.Dec.{eqb};
 ghost use lib.ListN.{length};
 ghost use Rattle.rules.specs.declared.Record.{Record};
 ghost use Rattle.rules.specs.declared.Marking.{Marking};
 ghost use Rattle.rules.specs.EventSet.{has, setOf};
-ghost use Rattle.rules.specs.Closure.{closure};
 ghost use Rattle.rules.specs.Check.{unreportable, verdict};
 ghost use Rattle.rules.specs.Shapes.Good.{GoodTable};
-ghost use Rattle.duties.specs.Reasons.{Led, suits, applies, numberOf, firstReason, verdictBy, verdictOf};
+ghost use Rattle.duties.specs.Reasons.{Led, matters, applies, firstReason, verdictBy, verdictOf};
 ghost use Rattle.acts.specs.Derived.{headOf, Derived};
-ghost use Rattle.duties.specs.Inhibition.{heldIn};
+ghost use Rattle.duties.specs.Inhibition.{heldIn, Followed};
 ghost use Rattle.acts.specs.Stands.{Stands};
 
-// The reasons that lie with a relation: 3, 5, 6.
-pub enum Reason {
-    Waiting,
-    Reopening,
-    Reviving,
-}
-
-// What the words say of the check: it accepts; a reason lies with an event; or it lies with a relation, which is still to be looked for,
-// from the closure and its milestones.
+// What the words say of the check: it accepts; a reason lies with an event; or it lies with a relation, which is still to be looked for: of
+// which kinds, from which events and to which.
 pub enum Finding {
     Accepts,
     Event(u8, usize),
-    Relation(Reason, u64, u64),
+    Relation(u8, u64, u64, u64),
 }
 
-// A reason that lies with a relation from the closure.
-fn suits(what: Reason, closed: u64, milestones: u64, k: Relation) -> bool
-    requires { ⌜ k .right < 64 ⌝ }
-    ensures { λ r. ⌜ r ≡ suits what closed milestones k ⌝ }
+// The kinds of relation that a reason lies with, each as a set of kinds: kind n is the bit worth 2^n.
+const CONDITIONS: u64 = 2;
+
+const RESPONSES: u64 = 4;
+
+const INCLUSIONS: u64 = 8;
+
+// A condition can be a reason if it has a time, an inclusion if it is of another event.
+fn matters(k: Relation) -> bool
+    ensures { λ r. ⌜ r ≡ matters k ⌝ }
 {
-    let kind = k.kind;
-    let left = k.left as usize;
-    let right = k.right as usize;
-    match what {
-        Reason::Waiting => if kind == 1 { 0 < k.time } else { false },
-        Reason::Reopening => if kind == 2 {
-            event_set::has_event(milestones, right)
-        } else {
-            false
-        },
-        Reason::Reviving => if kind == 3 {
-            other(closed, left, right)
-        } else {
-            false
-        },
+    if k.kind == 1 {
+        return 0 < k.time;
     }
+    if k.kind == 3 {
+        return k.left != k.right;
+    }
+    true
 }
 
-fn number_of(what: Reason) -> u8
-    ensures { λ r. ⌜ r ≡ numberOf what ⌝ }
+// The kinds are a set, and no kind that every relation is compared with: of that the compiler makes a loop for each kind.
+fn applies(kinds: u64, lefts: u64, rights: u64, k: Relation) -> bool
+    requires { ⌜ (k .kind < 64) × (k .left < 64) × (k .right < 64) ⌝ }
+    ensures { λ r. ⌜ r ≡ applies kinds lefts rights k ⌝ }
 {
-    match what {
-        Reason::Waiting => 3,
-        Reason::Reopening => 5,
-        Reason::Reviving => 6,
+    if event_set::has_event(kinds, k.kind as usize) {
+        if event_set::has_event(lefts, k.left as usize) {
+            if event_set::has_event(rights, k.right as usize) {
+                return matters(k);
+            }
+        }
     }
-}
-
-// Another event, of the closure.
-fn other(closed: u64, left: usize, right: usize) -> bool
-    requires { ⌜ right < 64 ⌝ }
-    ensures { λ r. ⌜ r ≡ (has closed right && not (eqb left right)) ⌝ }
-{
-    if event_set::has_event(closed, right) {
-        left != right
-    } else {
-        false
-    }
-}
-
-fn applies(what: Reason, closed: u64, milestones: u64, k: Relation) -> bool
-    requires { ⌜ k .left < 64 ⌝ }
-    requires { ⌜ k .right < 64 ⌝ }
-    ensures { λ r. ⌜ r ≡ applies what closed milestones k ⌝ }
-{
-    let left = k.left as usize;
-    if event_set::has_event(closed, left) {
-        suits(what, closed, milestones, k)
-    } else {
-        false
-    }
+    false
 }
 
 // The lowest relation with which a reason lies; the count where there is none.
-fn first_reason(t: Table, what: Reason, closed: u64, milestones: u64) -> usize
+fn first_reason(t: Table, kinds: u64, lefts: u64, rights: u64) -> usize
     requires { ⌜ GoodTable t ⌝ }
-    ensures { λ r. ⌜ r ≡ firstReason t what closed milestones ⌝ }
+    ensures { λ r. ⌜ r ≡ firstReason t kinds lefts rights ⌝ }
 {
     let n = t.count;
     let mut i = 0;
     while i < n {
         let k = t.relations[i];
-        if applies(what, closed, milestones, k) {
+        if applies(kinds, lefts, rights, k) {
             return i;
         }
         i += 1;
@@ -140,7 +108,7 @@ fn held(rows: &[u64], set: u64) -> u64
     let mut left = set;
     while left != 0 {
         let e = word::lowest(left);
-        if inhibition::inhibitors(rows, inhibition::EVERY, inhibition::EVERY, e) != 0 {
+        if inhibition::inhibitors(rows, e) != 0 {
             found = word::adding(found, e);
         }
         left -= 1 << e;
@@ -162,48 +130,30 @@ fn unreportable(rows: &[u64], head: Head, sets: &[u64; 4]) -> u64
     ((excluded | barred) & uncontrollable) | held(rows, uncontrollable)
 }
 
-// The busy events and, repeatedly, their inhibitors; of n events.
-pub fn closure(rows: &[u64], sets: &[u64; 4], n: usize) -> u64
-    requires { ⌜ (0 < n) × (n ≤ 64) × (length (now rows) ≡ 640) ⌝ }
-    ensures { λ r. ⌜ ((t : Table) (tail : List Record) (clock : ℕ) (columns : List ℕ) (m : Marking) → GoodTable t → Derived t (t .count) (now (rows .entry))
-        → t .events ≡ n
-        → Stands n tail clock (now (sets .entry)) columns m → r ≡ closure t m) ⌝ }
-{
-    let every = word::first(n);
-    let pending = sets[laid::PENDING] & sets[laid::BOUNDED] & every;
-    let answers = led_to(rows, derived::BOUNDED, every);
-    inhibition::reached(
-        rows,
-        inhibition::EVERY,
-        inhibition::EVERY,
-        pending | answers,
-    )
-}
-
 // Reasons 2 to 6, the first that applies; an event's at its lowest place.
-fn found_of(rows: &[u64], head: Head, closed: u64) -> Finding
+fn found_of(rows: &[u64], words: &[u64; 64], head: Head, closed: u64) -> Finding
     requires { ⌜ length (now rows) ≡ 640 ⌝ }
-    ensures { λ r. ⌜ ((t : Table) → GoodTable t → Derived t (t .count) (now (rows .entry)) → head ≡ headOf t → closed < 2 ^ t .events
-        → verdictBy t r ≡ verdictOf t closed) ⌝ }
+    ensures { λ r. ⌜ ((t : Table) → GoodTable t → Derived t (t .count) (now (rows .entry)) → Followed t (t .count) (now (words .entry))
+        → head ≡ headOf t → closed < 2 ^ t .events → verdictBy t r ≡ verdictOf t closed) ⌝ }
 {
     let uncausable = word::without(closed, head.causable);
     if uncausable != 0 {
         return Finding::Event(2, word::lowest(uncausable));
     }
     if led_to(rows, derived::TIMED, closed) != 0 {
-        return Finding::Relation(Reason::Waiting, closed, 0);
+        return Finding::Relation(3, CONDITIONS, closed, following::EVERY);
     }
-    let cyclic = inhibition::first_cyclic(rows, closed);
+    let cyclic = inhibition::first_cyclic(words, closed);
     if cyclic < 64 {
         return Finding::Event(4, cyclic);
     }
     let milestones = led_to(rows, derived::MILESTONE, closed);
     let answers = led_to(rows, derived::BOUNDED, closed) | led_to(rows, derived::EVENTUAL, closed);
     if answers & milestones != 0 {
-        return Finding::Relation(Reason::Reopening, closed, milestones);
+        return Finding::Relation(5, RESPONSES, closed, milestones);
     }
     if led_to(rows, derived::INCLUSION, closed) & closed != 0 {
-        return Finding::Relation(Reason::Reviving, closed, 0);
+        return Finding::Relation(6, INCLUSIONS, closed, closed);
     }
     Finding::Accepts
 }
@@ -219,8 +169,12 @@ pub fn found(rows: &[u64], head: Head, sets: &[u64; 4]) -> Finding
     if barred != 0 {
         return Finding::Event(1, word::lowest(barred));
     }
-    let closed = closure(rows, sets, head.events);
-    found_of(rows, head, closed)
+    let n = head.events;
+    let mut words = [0; 64];
+    following::words(rows, n, &mut words);
+    let answers = led_to(rows, derived::BOUNDED, word::first(n));
+    let closed = following::closure(&words, answers, sets, n);
+    found_of(rows, &words, head, closed)
 }
 
 // The verdict: a relation is looked for only where the words say that there is one.
@@ -231,9 +185,8 @@ pub fn verdict(t: Table, found: Finding) -> CheckAnswer
     match found {
         Finding::Accepts => CheckAnswer::Accepts,
         Finding::Event(reason, place) => CheckAnswer::Rejects(reason, place),
-        Finding::Relation(what, closed, milestones) => {
-            let number = number_of(what);
-            CheckAnswer::Rejects(number, first_reason(t, what, closed, milestones))
+        Finding::Relation(reason, kinds, lefts, rights) => {
+            CheckAnswer::Rejects(reason, first_reason(t, kinds, lefts, rights))
         }
     }
 }

@@ -59,7 +59,7 @@ fn guard_number(rows: &[u64], head: Head, sets: &[u64; 4], accepted: bool) -> u8
     match found {
         Finding::Accepts => 0,
         Finding::Event(reason, place) => 12,
-        Finding::Relation(what, closed, milestones) => 12,
+        Finding::Relation(reason, kinds, lefts, rights) => 12,
     }
 }
 

@@ -7,9 +7,9 @@ ghost use Rattle.duty.specs.Reading.{images};
 
 // What is read of them, and the number of reading them, 0 for done.
 pub struct Images {
-    pub number: u8,
     pub table: Table,
     pub marking: Marking,
+    pub number: u8,
 }
 
 pub fn first_of(a: u8, b: u8) -> u8

@@ -13,6 +13,7 @@ use acts::event_set;
 use acts::laid;
 use acts::time;
 use acts::waiting;
+use duties::following;
 use duties::guard;
 use duties::reasons;
 use rules::CheckAnswer;
@@ -166,19 +167,26 @@ pub fn hold_up(t: Table, m: Marking, event: usize) -> HoldUpAnswer
     HoldUpAnswer::Refused(number)
 }
 
-// The closure and its size, also where the check rejects.
+// The closure and its size, also where the check rejects. The relations are noted here, one by one: who is handed the table copies it.
 pub fn closure(t: Table, m: Marking) -> ClosureAnswer
     ensures { λ r. ⌜ r ≡ closureAnswer t m ⌝ }
 {
     let number = judge::then_marking(image::judge_table(t), t.events, m);
     if number == 0 {
-        let mut rows = [0; 640];
-        let mut links = [0; 256];
+        let mut words = [0; 64];
+        let mut answers = 0;
+        let n = t.count;
+        let mut i = 0;
+        while i < n {
+            let k = t.relations[i];
+            following::note(&mut words, k);
+            answers = following::answering(answers, k);
+            i += 1;
+        }
         let mut sets = [0; 4];
         let mut columns = [0; 192];
-        derived::derived(t, &mut rows, &mut links);
         laid::lay(m, &mut sets, &mut columns);
-        let set = reasons::closure(&rows, &sets, t.events);
+        let set = following::closure(&words, answers, &sets, t.events);
         let size = event_set::size(set);
         return ClosureAnswer {
             number: 0,
@@ -201,10 +209,9 @@ pub fn check(t: Table, m: Marking) -> CheckAnswer
     let number = judge::then_marking(image::judge_table(t), t.events, m);
     if number == 0 {
         let mut rows = [0; 640];
-        let mut links = [0; 256];
         let mut sets = [0; 4];
         let mut columns = [0; 192];
-        derived::derived(t, &mut rows, &mut links);
+        derived::rows_of(t, &mut rows);
         laid::lay(m, &mut sets, &mut columns);
         let found = reasons::found(&rows, derived::head_of(t), &sets);
         return reasons::verdict(t, found);

@@ -1,22 +1,28 @@
 -- The rows and links that are derived from a table: which sorts there are, which of them are in chains, and what noting a relation leaves at
 -- each place. Assumes nothing.
-use mathlib.Core.Path.{_≡_, refl, _∙_}
-use mathlib.Core.Bool.{Bool, true, false, cond}
+use mathlib.Core.Path.{_≡_, refl, _∙_, ap, sym}
+use mathlib.Core.Bool.{Bool, true, false, _||_, cond}
 use mathlib.Core.List.{List}
 use mathlib.Core.Logic.{_⊎_, inl, inr}
-use Prim.Native.Nat.{ℕ, _<_, _≤_, _+_, _%_}
+use Prim.Native.Nat.{ℕ, _<_, _≤_, _+_, _*_, _%_}
+use native.Mathlib.Decide.{ℕ-discrete}
 use native.Mathlib.Omega.{arith}
 use lib.Dec.{eqb, ltb}
-use lib.ListN.{length, getD, set, length-set}
+use lib.ListN.{length, getD, set, replicate, length-set, getD-replicate}
 use lib.Seq.{getD-set-same, getD-set-other}
-use borrow.Author.Tests.{eqb-true, ltb-true, lt-ltb, le-ltb}
+use borrow.Author.Tests.{eq-eqb, ne-eqb, eqb-true, ltb-true, lt-ltb, le-ltb}
 use Rattle.rules.specs.declared.Relation.{Relation}
 use Rattle.rules.specs.declared.Table.{Table}
 use Rattle.rules.specs.Holds.{isCondition, isResponse, isInclusion, isMilestone, relationOf}
+use Rattle.rules.specs.Counting.{some}
+use Rattle.rules.specs.EventSet.{has}
 use Rattle.rules.specs.Shapes.Sets.{withEvent}
 use Rattle.rules.specs.Shapes.Good.{GoodTable}
+use Rattle.rules.specs.Laws.Tests.{and-false, or-false}
+use Rattle.rules.specs.Laws.Counting.{some-none, some-more}
+use Rattle.rules.specs.Laws.EventSet.{has-with, has-zero}
 use Rattle.rules.specs.Laws.Granted.{time-fits}
-use Rattle.acts.specs.Derived.{sortOf, chainOf, isChained, linkOf, rowsNoted, linksNoted}
+use Rattle.acts.specs.Derived.{sortOf, rowOf, sorted, Derived, chainOf, isChained, linkOf, rowsNoted, linksNoted}
 
 -- what a relation of a judged table holds fits its digits
 module _ (t : Table) (g : GoodTable t) (k : ℕ) (b : k < t .count) where
@@ -43,6 +49,62 @@ sort-small k = go (isCondition k) (ltb 0 (k .time)) (isMilestone k) (isResponse 
     go false b false false e true true = omega arith
     go false b false false e true false = omega arith
     go false b false false e false g = omega arith
+
+-- a word that has the events of the first i relations: of relation i it takes event e, or nothing
+pub has-taken : (f : ℕ → Bool) (i e w x : ℕ) → has w x ≡ some i f → f i ≡ eqb e x → has (withEvent w e) x ≡ some (i + 1) f
+has-taken f i e w x old new = has-with w e x ∙ ap (λ (b : Bool). b || eqb e x) old ∙ sym (some-more f i ∙ rw new)
+
+pub has-passed : (f : ℕ → Bool) (i w x : ℕ) → has w x ≡ some i f → f i ≡ false → has w x ≡ some (i + 1) f
+has-passed f i w x old new = old ∙ sym (some-more f i ∙ rw new (or-false (some i f)))
+
+-- the rows of no relation, and of one more
+pub derived-none : (t : Table) → Derived t 0 (replicate 640 0)
+derived-none t = record {
+  size = refl;
+  row = λ e b s m x. ap (λ (w : ℕ). has w x) (getD-replicate 640 (10 * e + s) 0 0 (omega arith)) ∙ has-zero x ∙ sym (some-none (sorted t s e x));
+}
+
+module _ (t : Table) (i : ℕ) (small : relationOf t i .left < 64) where
+  abbrev noting : Relation
+  noting = relationOf t i
+
+  -- where it is noted
+  abbrev place : ℕ
+  place = 10 * noting .left + sortOf noting
+
+  pub place-small : 10 * relationOf t i .left + sortOf (relationOf t i) < 640
+  place-small = omega (arith, small, sort-small noting)
+
+  module _ (rows : List ℕ) (old : Derived t i rows) where
+    abbrev rows-after : List ℕ
+    rows-after = set rows place (withEvent (getD rows place 0) (noting .right))
+
+    pub derived-more : Derived t (i + 1)
+        (set rows (10 * relationOf t i .left + sortOf (relationOf t i))
+        (withEvent (getD rows (10 * relationOf t i .left + sortOf (relationOf t i)) 0) (relationOf t i .right)))
+    derived-more = record {
+      size = length-set rows place _ ∙ old .size;
+      row = λ e b s m x. at e b s m x (ℕ-discrete (noting .left) e) (ℕ-discrete (sortOf noting) s);
+    }
+      where
+        -- another place is kept
+        kept : (e : ℕ) → e < 64 → (s : ℕ) → s < 8 → (x : ℕ) → (10 * e + s ≡ place → ⊥) → sorted t s e x i ≡ false
+            → has (rowOf rows-after e s) x ≡ some (i + 1) (sorted t s e x)
+        kept e b s m x apart out =
+            ap (λ (w : ℕ). has w x) (getD-set-other rows place (10 * e + s) _ 0 apart)
+            ∙ has-passed (sorted t s e x) i (rowOf rows e s) x (old .row e b s m x) out
+
+        at : (e : ℕ) → e < 64 → (s : ℕ) → s < 8 → (x : ℕ) → Dec (noting .left ≡ e) → Dec (sortOf noting ≡ s)
+            → has (rowOf rows-after e s) x ≡ some (i + 1) (sorted t s e x)
+        at e b s m x (yes p) (yes q) =
+            rw (← p, ← q)
+            (ap (λ (w : ℕ). has w x) (getD-set-same rows place _ 0 (omega (arith, place-small, old .size)))
+            ∙ has-taken (sorted t (sortOf noting) (noting .left) x) i (noting .right) (getD rows place 0) x
+            (old .row (noting .left) small (sortOf noting) (sort-small noting) x)
+            (rw (eq-eqb (sortOf noting) (sortOf noting) refl, eq-eqb (noting .left) (noting .left) refl)))
+        at e b s m x (no n) d =
+            kept e b s m x (λ h. n (omega (arith, sort-small noting))) (rw (ne-eqb (noting .left) e n) (and-false (eqb (sortOf noting) s)))
+        at e b s m x (yes p) (no n) = kept e b s m x (λ h. n (omega (arith, p))) (rw (ne-eqb (sortOf noting) s n))
 
 -- two of them are in chains, whose beginnings stand after the eight words of a row
 abbrev pub Chained : ℕ → ℕ → Type 0
@@ -138,10 +200,16 @@ module _ (links rows : List ℕ) (at i : ℕ) (k : Relation) where
 -- how it is noted, by whether it is in a chain
 module _ (links rows : List ℕ) (at i : ℕ) (k : Relation) {sort begins : ℕ} (sorted : sort ≡ sortOf k) (begun : begins ≡ chainOf sort) where
   pub noted-chained : begins < 10
-      → (set (set rows (at + begins) (i + 1)) (at + sort) (withEvent (getD rows (at + sort) 0) (k .right)) ≡ rowsNoted rows at i k)
+      → (set (set rows (at + begins) (i + 1)) (at + sort) (withEvent (getD (set rows (at + begins) (i + 1)) (at + sort) 0) (k .right)) ≡ rowsNoted rows at i k)
       × (set links i (linkOf (getD rows (at + begins) 0 % 512) k) ≡ linksNoted links rows at i k)
   unfolding rowsNoted linksNoted
-  noted-chained few = rw (begun, sorted) (let h = lt-ltb (chainOf (sortOf k)) 10 (rw (begun, sorted) at few) in (rw h, rw h))
+  noted-chained few =
+      rw (getD-set-other rows (at + begins) (at + sort) (i + 1) 0 apart, begun, sorted)
+      (let h = lt-ltb (chainOf (sortOf k)) 10 (rw (begun, sorted) at few) in (rw h, rw h))
+    where
+      -- its word is not where its chain begins
+      apart : at + sort ≡ at + begins → ⊥
+      apart h = absurd (omega (arith, sort-small k, sorted, chain-after sort (rw begun at few), begun))
 
   pub noted-alone : 10 ≤ begins
       → (set rows (at + sort) (withEvent (getD rows (at + sort) 0) (k .right)) ≡ rowsNoted rows at i k) × (links ≡ linksNoted links rows at i k)

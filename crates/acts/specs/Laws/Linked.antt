@@ -21,7 +21,7 @@ use Rattle.rules.specs.Shapes.Sets.{withEvent}
 use Rattle.rules.specs.Laws.EventSet.{has-with, has-zero}
 use Rattle.rules.specs.Shapes.Good.{GoodTable}
 use Rattle.acts.specs.Derived.{sortOf, sorted, Derived, chainOf, isChained, ofSort, lastOf, linkOf, Own, Linked, rowsNoted, linksNoted}
-use Rattle.acts.specs.Laws.Derived.{right-small, time-small, sort-small}
+use Rattle.acts.specs.Laws.Derived.{right-small, time-small, sort-small, has-passed, has-taken}
 use Rattle.acts.specs.Laws.Derived.{Chained, chain-cases, chain-after, chain-same}
 use Rattle.acts.specs.Laws.Derived.{noted-sort, noted-chain, noted-other, length-noted, linked-here, linked-other, length-linked}
 
@@ -95,13 +95,6 @@ chain-says t s e rows at links k good own b chained of-sort =
     says (lastOf t s e k) (relationOf t k) (getD links k 0) (omega (arith, last-le t s e k, good .few-relations))
     (right-small t good k b) (time-small t good k b)
     (rw sorted at (own .link k b (eqb-true _ _ (p .1)) (rw sorted chained)))
-
--- a word that has the events of the first i relations: of relation i it takes event e, or nothing
-has-taken : (f : ℕ → Bool) (i e w x : ℕ) → has w x ≡ some i f → f i ≡ eqb e x → has (withEvent w e) x ≡ some (i + 1) f
-has-taken f i e w x old new = has-with w e x ∙ ap (λ (b : Bool). b || eqb e x) old ∙ sym (some-more f i ∙ rw new)
-
-has-passed : (f : ℕ → Bool) (i w x : ℕ) → has w x ≡ some i f → f i ≡ false → has w x ≡ some (i + 1) f
-has-passed f i w x old new = old ∙ sym (some-more f i ∙ rw new (or-false (some i f)))
 
 -- no relation yet, in words that are all 0
 pub own-none : (t : Table) (e at n : ℕ) (links : List ℕ) → at + 10 ≤ n → Own t 0 e (replicate n 0) at links

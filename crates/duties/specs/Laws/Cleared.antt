@@ -15,12 +15,11 @@ use Rattle.rules.specs.Laws.Tests.{decide, clash, denied, either, or-left}
 use Rattle.rules.specs.Shapes.Sets.{withEvent}
 use Rattle.rules.specs.Laws.EventSet.{has-zero, has-with}
 use Rattle.rules.specs.Shapes.Good.{GoodTable}
-use Rattle.acts.specs.Derived.{Derived, everyEvent}
-use Rattle.duties.specs.Inhibition.{inhibitorsIn, Cleared}
+use Rattle.duties.specs.Inhibition.{wordOf, Followed, Cleared}
 use Rattle.duties.specs.Laws.Followed.{awaited-within}
 
-module _ (rows : List ℕ) where
-  pub cleared-none : Cleared rows 0
+module _ (words : List ℕ) where
+  pub cleared-none : Cleared words 0
   cleared-none = record {
     rank = λ x. 0;
     most = 0;
@@ -28,10 +27,10 @@ module _ (rows : List ℕ) where
     lower = λ e x l h. absurd (clash h (has-zero e));
   }
 
-  module _ {cleared : ℕ} (c : Cleared rows cleared) where
+  module _ {cleared : ℕ} (c : Cleared words cleared) where
     -- members keep their rank, and what is new is above them all
-    pub cleared-with : (e : ℕ) → ((x : ℕ) → has (inhibitorsIn rows everyEvent everyEvent e) x ≡ true → has cleared x ≡ true)
-        → Cleared rows (withEvent cleared e)
+    pub cleared-with : (e : ℕ) → ((x : ℕ) → has (wordOf words e) x ≡ true → has cleared x ≡ true)
+        → Cleared words (withEvent cleared e)
     cleared-with e inside = record {
       rank = rank;
       most = suc (c .most);
@@ -54,16 +53,16 @@ module _ (rows : List ℕ) where
         is-new : (f : ℕ) → has (withEvent cleared e) f ≡ true → has cleared f ≡ false → e ≡ f
         is-new f h n = ⊎-elim (λ p. absurd (clash p n)) (λ p. eqb-true e f p) (either (has cleared f) (eqb e f) (sym (has-with cleared e f) ∙ h))
 
-        next : (f x : ℕ) → f < 64 → has (withEvent cleared e) f ≡ true → has (inhibitorsIn rows everyEvent everyEvent f) x ≡ true
+        next : (f x : ℕ) → f < 64 → has (withEvent cleared e) f ≡ true → has (wordOf words f) x ≡ true
             → (has cleared f ≡ true) ⊎ (has cleared f ≡ false) → (has (withEvent cleared e) x ≡ true) × (rank x < rank f)
         next f x l h i (inl p) = let q = c .lower f x l p i in (kept x (q .0), rw (member x (q .0), member f p) (q .1))
         next f x l h i (inr n) =
-            let q = inside x (ap (λ (y : ℕ). has (inhibitorsIn rows everyEvent everyEvent y) x) (is-new f h n) ∙ i) in
+            let q = inside x (ap (λ (y : ℕ). has (wordOf words y) x) (is-new f h n) ∙ i) in
             (kept x q, rw (member x q, new f n) (c .below x q))
 
-    pub cleared-off : (t : Table) → GoodTable t → Derived t (t .count) rows → (e : ℕ) → e < 64 → has cleared e ≡ true → has (awaited t e) e ≡ false
+    pub cleared-off : (t : Table) → GoodTable t → Followed t (t .count) words → (e : ℕ) → e < 64 → has cleared e ≡ true → has (awaited t e) e ≡ false
     cleared-off t good made e b h =
         denied (has (awaited t e) e)
-        (λ itself. let p = awaited-within t good rows made (λ y. (has cleared y ≡ true) × (c .rank y < c .rank e))
+        (λ itself. let p = awaited-within t good words made (λ y. (has cleared y ≡ true) × (c .rank y < c .rank e))
         (λ f x l p i. let q = c .lower f x l (p .0) i in (q .0, omega (arith, q .1, p .1))) e b (λ x i. c .lower e x b h i) e itself in
         omega (arith, p .1))

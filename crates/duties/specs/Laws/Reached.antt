@@ -1,8 +1,7 @@
--- A set is followed to its inhibitors by opening its events one by one: what was found is closed but for the events still to be opened, and
+-- A set is followed along words by opening its events one by one: what was found is closed but for the events still to be opened, and
 -- each turn one event fewer waits. Assumes nothing.
 use mathlib.Core.Path.{_≡_, refl, _∙_, ap, sym}
 use mathlib.Core.Bool.{Bool, true, false, not, _&&_, _||_}
-use mathlib.Core.List.{List}
 use mathlib.Core.Logic.{_⊎_, ⊎-elim, inl, inr}
 use Prim.Native.Nat.{ℕ, _<_, _-_, _^_}
 use native.Mathlib.Decide.{ℕ-discrete}
@@ -16,21 +15,21 @@ use Rattle.rules.specs.Laws.Tests.{decide, both, join, either, denied, clash, n
 use Rattle.rules.specs.Laws.Counting.{Found, many-lt}
 use Rattle.rules.specs.Laws.EventSet.{has-zero}
 use Rattle.rules.specs.Laws.Bitwise.{has-or}
-use Rattle.duties.specs.Inhibition.{inhibitorsIn, Reached}
+use Rattle.duties.specs.Inhibition.{Reached}
 use Rattle.acts.specs.Laws.Members.{lowest-found, has-rest}
 
 -- an event that is not opened: not found, or found and still to be opened
 abbrev pub waits : ℕ → ℕ → ℕ → Bool
 waits found unopened x = not (has found x) || has unopened x
 
-module _ (rows : List ℕ) (conditions milestones set : ℕ) where
+module _ (word : ℕ → ℕ) (set : ℕ) where
   pub record Reaching (found unopened : ℕ) : Type 0 where
     pub fits : unopened < 2 ^ 64
     pub starts : (x : ℕ) → has set x ≡ true → has found x ≡ true
     pub known : (x : ℕ) → has unopened x ≡ true → has found x ≡ true
-    pub on : (e x : ℕ) → e < 64 → has found e ≡ true → has unopened e ≡ false → has (inhibitorsIn rows conditions milestones e) x ≡ true → has found x ≡ true
+    pub on : (e x : ℕ) → e < 64 → has found e ≡ true → has unopened e ≡ false → has (word e) x ≡ true → has found x ≡ true
     pub within : (p : ℕ → Bool) → ((x : ℕ) → has set x ≡ true → p x ≡ true)
-        → ((e x : ℕ) → e < 64 → p e ≡ true → has (inhibitorsIn rows conditions milestones e) x ≡ true → p x ≡ true)
+        → ((e x : ℕ) → e < 64 → p e ≡ true → has (word e) x ≡ true → p x ≡ true)
         → (x : ℕ) → has found x ≡ true → p x ≡ true
 
   pub reaching-start : set < 2 ^ 64 → Reaching set set
@@ -43,7 +42,7 @@ module _ (rows : List ℕ) (conditions milestones set : ℕ) where
   }
 
   module _ {found unopened : ℕ} (r : Reaching found unopened) where
-    pub reaching-end : unopened ≡ 0 → Reached rows conditions milestones set found
+    pub reaching-end : unopened ≡ 0 → Reached word set found
     reaching-end z = record {
       starts = r .starts;
       on = λ e x l h. r .on e x l h (ap (λ (w : ℕ). has w e) z ∙ has-zero e);
@@ -59,7 +58,7 @@ module _ (rows : List ℕ) (conditions milestones set : ℕ) where
       reaching-small = opened .small
 
       module _ (more : ℕ) (room : more < 2 ^ 64)
-          (new : (x : ℕ) → has more x ≡ (has (inhibitorsIn rows conditions milestones e) x && not (has found x)))
+          (new : (x : ℕ) → has more x ≡ (has (word e) x && not (has found x)))
         where
           abbrev wider : ℕ
           wider = bitOr found more
@@ -83,8 +82,8 @@ module _ (rows : List ℕ) (conditions milestones set : ℕ) where
           more-wider : (x : ℕ) → has more x ≡ true → has wider x ≡ true
           more-wider x h = has-or found more x ∙ or-right (has found x) (has more x) h
 
-          -- an inhibitor of the opened event is found now
-          brought : (x : ℕ) → has (inhibitorsIn rows conditions milestones e) x ≡ true → has wider x ≡ true
+          -- an event in the word of the opened one is found now
+          brought : (x : ℕ) → has (word e) x ≡ true → has wider x ≡ true
           brought x h =
               ⊎-elim (λ p. found-wider x p) (λ p. more-wider x (new x ∙ join h (ap not p))) (decide (has found x))
 
@@ -98,14 +97,14 @@ module _ (rows : List ℕ) (conditions milestones set : ℕ) where
                 ⊎-elim
                 (λ q. r .within p from onward x q)
                 (λ q. onward e x (opened .small) (r .within p from onward e (r .known e (opened .holds)))
-                (both (has (inhibitorsIn rows conditions milestones e) x) (not (has found x)) (sym (new x) ∙ q) .0))
+                (both (has (word e) x) (not (has found x)) (sym (new x) ∙ q) .0))
                 (either (has found x) (has more x) (sym (has-or found more x) ∙ h));
           }
             where
               -- an event that is opened was so before, or is the one of this turn
-              next : (f x : ℕ) → f < 64 → has wider f ≡ true → has rest f ≡ false → has (inhibitorsIn rows conditions milestones f) x ≡ true → Dec (f ≡ e)
+              next : (f x : ℕ) → f < 64 → has wider f ≡ true → has rest f ≡ false → has (word f) x ≡ true → Dec (f ≡ e)
                   → has wider x ≡ true
-              next f x l h n i (yes q) = brought x (ap (λ (y : ℕ). has (inhibitorsIn rows conditions milestones y) x) (sym q) ∙ i)
+              next f x l h n i (yes q) = brought x (ap (λ (y : ℕ). has (word y) x) (sym q) ∙ i)
               next f x l h n i (no d) =
                   ⊎-elim
                   (λ p. found-wider x (r .on f x l p (denied (has unopened f) (λ u. clash (has-left f ∙ rw (u, ne-eqb f e d)) n)) i))
@@ -126,7 +125,7 @@ module _ (rows : List ℕ) (conditions milestones set : ℕ) where
                   (λ p. ⊎-elim
                   (λ q. or-right (not (has found y)) (has unopened y) (q .0))
                   (λ q. or-left (not (has found y)) (has unopened y)
-                  (both (has (inhibitorsIn rows conditions milestones e) y) (not (has found y)) (sym (new y) ∙ q) .1))
+                  (both (has (word e) y) (not (has found y)) (sym (new y) ∙ q) .1))
                   (rest-cases y p))
                   (either (not (has wider y)) (has rest y) h)
 
@@ -134,7 +133,7 @@ module _ (rows : List ℕ) (conditions milestones set : ℕ) where
               here = r .known e (opened .holds)
 
               not-more : has more e ≡ false
-              not-more = new e ∙ rw here (and-false (has (inhibitorsIn rows conditions milestones e) e))
+              not-more = new e ∙ rw here (and-false (has (word e) e))
 
               gone : waits wider rest e ≡ false
               gone = rw (found-wider e here, has-left e, eq-eqb e e refl, not-more) (ap (λ (b : Bool). b || false) (and-false (has unopened e)))

@@ -20,7 +20,7 @@ use Rattle.rules.specs.Laws.EventSet.{has-zero, has-minus-same, has-minus-other
 use Rattle.rules.specs.Laws.Bitwise.{has-or, has-and}
 use Rattle.rules.specs.Laws.Turns.{same-word}
 use Rattle.acts.specs.Derived.{rowOf}
-use Rattle.duties.specs.Inhibition.{inhibitorsIn, readyIn}
+use Rattle.duties.specs.Inhibition.{followedIn, readyIn}
 use Rattle.duties.specs.Taking.{Awaits}
 use Rattle.acts.specs.Laws.Each.{chosen-start, chosen-in, chosen-out}
 
@@ -54,7 +54,7 @@ module _ (rows : List ℕ) where
   abbrev isInhibitor : ℕ → ℕ → Bool
   isInhibitor e x = has (bitOr (rowOf rows e 0) (rowOf rows e 1)) x || has (rowOf rows e 2) x
 
-  inhibits-in : (s e x : ℕ) → has (inhibitorsIn rows s s e) x ≡ (isInhibitor e x && has s x)
+  inhibits-in : (s e x : ℕ) → has (followedIn rows s s e) x ≡ (isInhibitor e x && has s x)
   inhibits-in s e x =
       let waits = bitOr (rowOf rows e 0) (rowOf rows e 1) in
       has-or (bitAnd waits s) (bitAnd (rowOf rows e 2) s) x ∙ ap₂ _||_ (has-and waits s x) (has-and (rowOf rows e 2) s x)
@@ -66,28 +66,28 @@ module _ (rows : List ℕ) where
       gathered true false false = refl
       gathered false b c = refl
 
-  inhibitor-inside : (s e x : ℕ) → has (inhibitorsIn rows s s e) x ≡ true → has s x ≡ true
+  inhibitor-inside : (s e x : ℕ) → has (followedIn rows s s e) x ≡ true → has s x ≡ true
   inhibitor-inside s e x h = both (isInhibitor e x) (has s x) (sym (inhibits-in s e x) ∙ h) .1
 
-  inhibitor-other : (s w e x : ℕ) → has (inhibitorsIn rows s s e) x ≡ true → has w x ≡ true → has (inhibitorsIn rows w w e) x ≡ true
+  inhibitor-other : (s w e x : ℕ) → has (followedIn rows s s e) x ≡ true → has w x ≡ true → has (followedIn rows w w e) x ≡ true
   inhibitor-other s w e x h i = inhibits-in w e x ∙ join (both (isInhibitor e x) (has s x) (sym (inhibits-in s e x) ∙ h) .0) i
 
   -- none is in the set
-  inhibitors-none : (s e : ℕ) → ((x : ℕ) → has (inhibitorsIn rows s s e) x ≡ true → ⊥) → eqb (inhibitorsIn rows s s e) 0 ≡ true
+  inhibitors-none : (s e : ℕ) → ((x : ℕ) → has (followedIn rows s s e) x ≡ true → ⊥) → eqb (followedIn rows s s e) 0 ≡ true
   inhibitors-none s e none = eq-eqb _ 0 (same-word _ 0 (λ x. denied _ (none x) ∙ sym (has-zero x)))
 
-  no-inhibitor : (s e x : ℕ) → eqb (inhibitorsIn rows s s e) 0 ≡ true → has (inhibitorsIn rows s s e) x ≡ true → ⊥
+  no-inhibitor : (s e x : ℕ) → eqb (followedIn rows s s e) 0 ≡ true → has (followedIn rows s s e) x ≡ true → ⊥
   no-inhibitor s e x none h = clash h (ap (λ (w : ℕ). has w x) (eqb-true _ 0 none) ∙ has-zero x)
 
   -- who waits for whom, one event after the other
   module _ (needed x : ℕ) where
     abbrev pub waitsFor : ℕ → Bool
-    waitsFor e = has (inhibitorsIn rows needed needed e) x
+    waitsFor e = has (followedIn rows needed needed e) x
 
     pub awaits-start : x < 64 → (e : ℕ) → (has (getD (replicate 64 0) x 0) e || (has needed e && waitsFor e)) ≡ (has needed e && waitsFor e)
     awaits-start small e = rw (getD-replicate {A = ℕ} 64 x 0 0 small) (chosen-start waitsFor e needed)
 
-    pub awaits-more : (e left before inhibitors after y : ℕ) {whole : Bool} → has left e ≡ true → inhibitors ≡ inhibitorsIn rows needed needed e
+    pub awaits-more : (e left before inhibitors after y : ℕ) {whole : Bool} → has left e ≡ true → inhibitors ≡ followedIn rows needed needed e
         → after ≡ cond (has inhibitors x) (withEvent before e) before → (has before y || (has left y && waitsFor y)) ≡ whole
         → (has after y || (has (left - 2 ^ e) y && waitsFor y)) ≡ whole
     awaits-more e left before inhibitors after y inside made put old =
@@ -114,7 +114,7 @@ module _ {rows : List ℕ} {needed untaken ready : ℕ} (r : Ready rows needed u
     -- it is taken
     module _ (small : e < 64) (waiting : List ℕ) (waits : Awaits rows needed waiting) (freed : ℕ)
         (free : (x : ℕ) → has freed x
-        ≡ (has (bitAnd (getD waiting e 0) (untaken - 2 ^ e)) x && eqb (inhibitorsIn rows (untaken - 2 ^ e) (untaken - 2 ^ e) x) 0))
+        ≡ (has (bitAnd (getD waiting e 0) (untaken - 2 ^ e)) x && eqb (followedIn rows (untaken - 2 ^ e) (untaken - 2 ^ e) x) 0))
       where
         abbrev left : ℕ
         left = untaken - 2 ^ e
@@ -139,25 +139,25 @@ module _ {rows : List ℕ} {needed untaken ready : ℕ} (r : Ready rows needed u
                 join (both (has (getD waiting e 0) x) (has left x) (sym (has-and (getD waiting e 0) left x) ∙ q .0) .1) (q .1)
 
         back : (x : ℕ) → readyIn rows left x ≡ true → has (bitOr (ready - 2 ^ e) freed) x ≡ true
-        back x h = has-or (ready - 2 ^ e) freed x ∙ ⊎-elim was-ready is-freed (decide (eqb (inhibitorsIn rows untaken untaken x) 0))
+        back x h = has-or (ready - 2 ^ e) freed x ∙ ⊎-elim was-ready is-freed (decide (eqb (followedIn rows untaken untaken x) 0))
           where
-            p : (has left x ≡ true) × (eqb (inhibitorsIn rows left left x) 0 ≡ true)
+            p : (has left x ≡ true) × (eqb (followedIn rows left left x) 0 ≡ true)
             p = both (has left x) _ h
 
             u : (has untaken x ≡ true) × (x ≡ e → ⊥)
             u = rest-parts untaken e x inside (p .0)
 
-            was-ready : eqb (inhibitorsIn rows untaken untaken x) 0 ≡ true → has (ready - 2 ^ e) x || has freed x ≡ true
+            was-ready : eqb (followedIn rows untaken untaken x) 0 ≡ true → has (ready - 2 ^ e) x || has freed x ≡ true
             was-ready z = or-left _ (has freed x) (rest-has ready e x is-ready (r .told x ∙ join (u .0) z) (u .1))
 
             -- it waited for e, as for no other
-            held : eqb (inhibitorsIn rows untaken untaken x) 0 ≡ false → has (inhibitorsIn rows untaken untaken x) e ≡ true
+            held : eqb (followedIn rows untaken untaken x) 0 ≡ false → has (followedIn rows untaken untaken x) e ≡ true
             held z =
                 affirmed _ (λ n. clash (inhibitors-none rows untaken x (λ y i. no-inhibitor rows left x y (p .1)
                 (inhibitor-other rows untaken left x y i
-                (rest-has untaken e y inside (inhibitor-inside rows untaken x y i) (λ q. clash i (ap (has (inhibitorsIn rows untaken untaken x)) q ∙ n)))))) z)
+                (rest-has untaken e y inside (inhibitor-inside rows untaken x y i) (λ q. clash i (ap (has (followedIn rows untaken untaken x)) q ∙ n)))))) z)
 
-            is-freed : eqb (inhibitorsIn rows untaken untaken x) 0 ≡ false → has (ready - 2 ^ e) x || has freed x ≡ true
+            is-freed : eqb (followedIn rows untaken untaken x) 0 ≡ false → has (ready - 2 ^ e) x || has freed x ≡ true
             is-freed z =
                 or-right (has (ready - 2 ^ e) x) (has freed x)
                 (free x ∙ join (has-and (getD waiting e 0) left x

@@ -4,10 +4,12 @@ use mathlib.Core.Bool.{Bool, true, false, not, _&&_, _||_, and-true, and-assoc, 
 use mathlib.Core.List.{List}
 use mathlib.Core.Logic.{⊎-elim}
 use Prim.Native.Nat.{ℕ, _<_, _≤_, _^_}
+use native.Mathlib.Decide.{ℕ-discrete}
 use native.Mathlib.Omega.{arith}
 use lib.Dec.{eqb, ltb}
 use lib.Bits.{bitOr, bitAnd}
 use borrow.Author.Tests.{eqb-true, eq-eqb, ne-eqb, lt-ltb, le-ltb, ltb-true}
+use Rattle.rules.specs.declared.Relation.{Relation}
 use Rattle.rules.specs.declared.Table.{Table}
 use Rattle.rules.specs.declared.Marking.{Marking}
 use Rattle.rules.specs.declared.CheckAnswer.{CheckAnswer}
@@ -15,26 +17,25 @@ use Rattle.rules.specs.declared.CheckAnswer.the-variants.{Accepts, Rejects}
 use Rattle.rules.specs.Counting.{some, lowest}
 use Rattle.rules.specs.EventSet.{has, setOf, lowestOf}
 use Rattle.rules.specs.Holds.{isCondition, isResponse, isInclusion, isExclusion, isMilestone, isControllable, relationOf, recordOf}
-use Rattle.rules.specs.Closure.{inhibits, follows, busy}
+use Rattle.rules.specs.Effect.{leads}
+use Rattle.rules.specs.Closure.{inhibits, busy}
 use Rattle.rules.specs.Check.{unreportable, uncausable, waiting, onCycle, reopening, reviving, reason}
-use Rattle.rules.specs.Laws.Tests.{clash, not-true, both, either, join, same-test}
+use Rattle.rules.specs.Laws.Tests.{decide, clash, not-true, both, either, join, same-test}
 use Rattle.rules.specs.Laws.Counting.{some-where, some-at, lowest-cases, lowest-is, lowest-none, lowest-same}
 use Rattle.rules.specs.Laws.EventSet.{has-zero, set-has, set-holds, set-fits}
-use Rattle.rules.specs.Laws.Bitwise.{has-or, has-and}
+use Rattle.rules.specs.Laws.Bitwise.{has-or, has-and, has-one}
 use Rattle.rules.specs.Shapes.Good.{GoodTable}
 use Rattle.rules.specs.Laws.Widened.{has-below}
-use Rattle.rules.specs.Laws.Closure.{follows-where, follows-at}
 use Rattle.acts.specs.declared.derived.Head.{Head}
-use Rattle.duties.specs.declared.reasons.Reason.the-variants.{Waiting, Reopening, Reviving}
 use Rattle.acts.specs.Derived.{sortOf, headOf, Derived, everyEvent}
-use Rattle.duties.specs.Inhibition.{inhibitorsIn, heldIn}
-use Rattle.duties.specs.Reasons.{Led, Ends, firstReason, verdictOf}
-use Rattle.acts.specs.Laws.Members.{set-by-test, lowest-found}
+use Rattle.duties.specs.Inhibition.{inhibitorsIn, Followed, Answers, heldIn}
+use Rattle.duties.specs.Reasons.{Led, Ends, matters, applies, firstReason, verdictOf}
+use Rattle.acts.specs.Laws.Members.{set-by-test, has-every, lowest-found}
 use Rattle.acts.specs.Laws.Derived.{right-small}
 use Rattle.duties.specs.Laws.Sets.{isOwed}
 use Rattle.acts.specs.Laws.Sorts.{sorts}
 use Rattle.acts.specs.Laws.Sorted.{some-either}
-use Rattle.duties.specs.Laws.Followed.{inhibitors-follow}
+use Rattle.duties.specs.Laws.Followed.{inhibitors-are}
 use Rattle.acts.specs.Laws.Each.{some-member}
 use Rattle.duties.specs.Laws.Ends.{ends-same, ends-or, ends-and, ends-none, ends-exist, ends-some, from, led-ends, led-every}
 
@@ -75,55 +76,66 @@ reason-none number n f next e = rw (e, le-ltb n n (omega arith))
 pub reason-at : (number n p : ℕ) (f : ℕ → Bool) (next : CheckAnswer) → (lowest n f ≡ p) × (p < n) → reason number n f next ≡ Rejects number p
 reason-at number n p f next at = rw (at .0, lt-ltb p n (at .1))
 
-module _ (t : Table) (good : GoodTable t) (m : Marking) (rows : List ℕ) (made : Derived t (t .count) rows)
-    (every : ℕ) (all : (x : ℕ) → has every x ≡ ltb x (t .events))
-  where
-    exists : (w x : ℕ) → has (bitAnd w every) x ≡ true → x < t .events
-    exists w x h = ltb-true x (t .events) (sym (all x) ∙ both (has w x) (has every x) (sym (has-and w every x) ∙ h) .1)
+module _ (t : Table) (good : GoodTable t) (m : Marking) (every : ℕ) (all : (x : ℕ) → has every x ≡ ltb x (t .events)) where
+  -- busy
+  pub busy-word : (owed answers : ℕ) → ((x : ℕ) → x < t .events → has owed x ≡ isOwed m x) → Answers t (t .count) answers
+      → bitOr (bitAnd owed every) answers ≡ setOf (t .events) (busy t m)
+  unfolding busy
+  busy-word owed answers told ends =
+      set-by-test (t .events) (bitOr (bitAnd owed every) answers) (busy t m)
+      (λ x h. ⊎-elim (exists x) (λ p. ends-exist t good (λ k. isResponse (relationOf t k) && relationOf t k .bounded) answers x ends p)
+      (either (has (bitAnd owed every) x) (has answers x) (sym (has-or (bitAnd owed every) answers x) ∙ h)))
+      (λ x b. has-or (bitAnd owed every) answers x ∙ ap₂ _||_ (within x b ∙ told x b) (ends x))
+    where
+      exists : (x : ℕ) → has (bitAnd owed every) x ≡ true → x < t .events
+      exists x h = ltb-true x (t .events) (sym (all x) ∙ both (has owed x) (has every x) (sym (has-and owed every x) ∙ h) .1)
 
-    within : (w x : ℕ) → x < t .events → has (bitAnd w every) x ≡ has w x
-    within w x b = has-and w every x ∙ rw (all x, lt-ltb x (t .events) b) (and-true (has w x))
+      within : (x : ℕ) → x < t .events → has (bitAnd owed every) x ≡ has owed x
+      within x b = has-and owed every x ∙ rw (all x, lt-ltb x (t .events) b) (and-true (has owed x))
 
-    -- busy
-    pub busy-word : (owed answers : ℕ) → ((x : ℕ) → x < t .events → has owed x ≡ isOwed m x) → Led rows 3 every answers
-        → bitOr (bitAnd owed every) answers ≡ setOf (t .events) (busy t m)
-    unfolding busy
-    busy-word owed answers told led =
-        set-by-test (t .events) (bitOr (bitAnd owed every) answers) (busy t m)
-        (λ x h. ⊎-elim (exists owed x) (λ p. ends-exist t good (λ k. isResponse (relationOf t k) && relationOf t k .bounded) answers x ends p)
-        (either (has (bitAnd owed every) x) (has answers x) (sym (has-or (bitAnd owed every) answers x) ∙ h)))
-        (λ x b. has-or (bitAnd owed every) answers x ∙ ap₂ _||_ (within owed x b ∙ told x b) (ends x))
-      where
-        ends : Ends t (λ k. isResponse (relationOf t k) && relationOf t k .bounded) answers
-        ends =
-            ends-same t _ _ answers (λ k b. sorts (relationOf t k) (good .relations-good k b) .answers)
-            (led-every t good rows made 3 every answers (omega arith) all led)
+  module _ (rows : List ℕ) (made : Derived t (t .count) rows) where
+    -- what answers a bounded response, by the rows
+    pub answers-told : (answers : ℕ) → Led rows 3 every answers → Answers t (t .count) answers
+    answers-told answers led =
+        ends-same t _ _ answers (λ k b. sorts (relationOf t k) (good .relations-good k b) .answers)
+        (led-every t good rows made 3 every answers (omega arith) all led)
 
     -- an event has an inhibitor where a relation that inhibits has it as left
     held-where : (e : ℕ) → e < t .events
-        → not (eqb (inhibitorsIn rows everyEvent everyEvent e) 0) ≡ some (t .count) (λ k. inhibits (relationOf t k) && eqb (relationOf t k .left) e)
+        → not (eqb (inhibitorsIn rows e) 0) ≡ some (t .count) (λ k. inhibits (relationOf t k) && eqb (relationOf t k .left) e)
     held-where e b = same-test _ _ there back
       where
         row : ℕ
-        row = inhibitorsIn rows everyEvent everyEvent e
+        row = inhibitorsIn rows e
 
-        follow : (x : ℕ) → has row x ≡ follows t e x
-        follow = inhibitors-follow t (good) rows made e (omega (arith, good .few-events))
+        -- a relation by which x is an inhibitor of e
+        inhibiting : ℕ → ℕ → Bool
+        inhibiting x k = inhibits (relationOf t k) && leads (relationOf t k) e x
+
+        told : (x : ℕ) → has row x ≡ some (t .count) (inhibiting x)
+        told = inhibitors-are t good rows made e (omega (arith, good .few-events))
+
+        inhibitor : (x : ℕ) → has row x ≡ true → (k : ℕ) × (k < t .count) × (inhibits (relationOf t k) ≡ true) × (leads (relationOf t k) e x ≡ true)
+        inhibitor x h =
+            let k = some-where (inhibiting x) (t .count) (sym (told x) ∙ h) in
+            let p = both (inhibits (relationOf t (k .0))) (leads (relationOf t (k .0)) e x) (k .2) in
+            (k .0, k .1, p .0, p .1)
 
         there : not (eqb row 0) ≡ true → some (t .count) (λ k. inhibits (relationOf t k) && eqb (relationOf t k .left) e) ≡ true
         there h =
             let x = some-member 64 row
-            (λ x i. let k = follows-where t e x (sym (follow x) ∙ i) in subst (λ (y : ℕ). y < 64) (k .4) (right-small t (good) (k .0) (k .1)))
+            (λ x i. let k = inhibitor x i in
+            subst (λ (y : ℕ). y < 64) (eqb-true _ _ (both (eqb (relationOf t (k .0) .left) e) _ (k .3) .1)) (right-small t good (k .0) (k .1)))
             (λ q. clash (eq-eqb row 0 q) (not-true _ h)) in
-            let k = follows-where t e (x .0) (sym (follow (x .0)) ∙ x .1) in
-            some-at _ (t .count) (k .0) (k .1) (join (k .2) (eq-eqb _ _ (k .3)))
+            let k = inhibitor (x .0) (x .1) in
+            some-at _ (t .count) (k .0) (k .1) (join (k .2) (both (eqb (relationOf t (k .0) .left) e) _ (k .3) .0))
 
         back : some (t .count) (λ k. inhibits (relationOf t k) && eqb (relationOf t k .left) e) ≡ true → not (eqb row 0) ≡ true
         back h =
             let k = some-where _ (t .count) h in
             let p = both (inhibits (relationOf t (k .0))) (eqb (relationOf t (k .0) .left) e) (k .2) in
             let x = relationOf t (k .0) .right in
-            let inside : has row x ≡ true = follow x ∙ ap (λ (y : ℕ). follows t y x) (sym (eqb-true _ _ (p .1))) ∙ follows-at t (k .0) (k .1) (p .0) in
+            let inside : has row x ≡ true = told x ∙ some-at (inhibiting x) (t .count) (k .0) (k .1) (join (p .0) (join (p .1) (eq-eqb x x refl))) in
             ap not (ne-eqb row 0 (λ q. clash inside (ap (λ (v : ℕ). has v x) q ∙ has-zero x)))
 
     -- 1
@@ -188,23 +200,47 @@ module _ (t : Table) (closed : ℕ) (fits : closed < 2 ^ t .events) where
   cyclic-exists x h = has-below (t .events) closed x fits (both (has closed x) _ h .0)
 
 -- 3, 5, 6: the same tests in another order
-swapped : (a b c : Bool) → (b && (a && c)) ≡ (a && b && c)
-swapped a b c = sym (and-assoc b a c) ∙ ap (λ (d : Bool). d && c) (and-comm b a)
-
 turned : (a b c : Bool) → (a && b && c) ≡ (a && c && b)
 turned a b c = and-assoc a b c ∙ ap (λ (d : Bool). a && d) (and-comm b c) ∙ sym (and-assoc a c b)
 
-module _ (t : Table) (closed : ℕ) where
-  first-waiting : firstReason t Waiting closed 0 ≡ lowest (t .count) (waiting t closed)
-  unfolding firstReason waiting
-  first-waiting = lowest-same _ _ (t .count) (λ k b. swapped (isCondition (relationOf t k)) (has closed (relationOf t k .left)) (ltb 0 (relationOf t k .time)))
+-- where the kinds are one kind
+of-kind : (n kind : ℕ) → has (2 ^ n) kind ≡ eqb kind n
+of-kind n kind = has-one n kind ∙ go (ℕ-discrete n kind)
+  where
+    go : Dec (n ≡ kind) → eqb n kind ≡ eqb kind n
+    go (yes q) = eq-eqb n kind q ∙ sym (eq-eqb kind n (sym q))
+    go (no d) = ne-eqb n kind d ∙ sym (ne-eqb kind n (λ q. d (sym q)))
 
-  first-reviving : firstReason t Reviving closed 0 ≡ lowest (t .count) (reviving t closed)
-  unfolding firstReason reviving
-  first-reviving =
+-- a relation of one kind, from the closure
+module _ (k : Relation) (closed rights : ℕ) where
+  abbrev pub rest : Bool
+  rest = has closed (k .left) && (has rights (k .right) && matters k)
+
+  waiting-applies : has rights (k .right) ≡ true → applies 2 closed rights k ≡ (isCondition k && has closed (k .left) && ltb 0 (k .time))
+  waiting-applies all = ap (λ (a : Bool). a && rest) (of-kind 1 (k .kind)) ∙ ⊎-elim (λ h. rw (eqb-true (k .kind) 1 h, all)) (λ h. rw h) (decide (eqb (k .kind) 1))
+
+  reopening-applies : applies 4 closed rights k ≡ (isResponse k && has closed (k .left) && has rights (k .right))
+  reopening-applies =
+      ap (λ (a : Bool). a && rest) (of-kind 2 (k .kind))
+      ∙ ⊎-elim (λ h. rw (eqb-true (k .kind) 2 h, and-true (has rights (k .right)))) (λ h. rw h) (decide (eqb (k .kind) 2))
+
+  reviving-applies : applies 8 closed rights k ≡ (isInclusion k && has closed (k .left) && has rights (k .right) && not (eqb (k .left) (k .right)))
+  reviving-applies =
+      ap (λ (a : Bool). a && rest) (of-kind 3 (k .kind))
+      ∙ ⊎-elim (λ h. rw (eqb-true (k .kind) 3 h) (sym (and-assoc (has closed (k .left)) (has rights (k .right)) (not (eqb (k .left) (k .right))))))
+      (λ h. rw h) (decide (eqb (k .kind) 3))
+
+-- the relation that is looked for
+module _ (t : Table) (good : GoodTable t) (closed : ℕ) where
+  first-waiting : firstReason t 2 closed everyEvent ≡ lowest (t .count) (waiting t closed)
+  unfolding firstReason waiting
+  first-waiting =
       lowest-same _ _ (t .count)
-      (λ k b. swapped (isInclusion (relationOf t k)) (has closed (relationOf t k .left)) _
-      ∙ sym (and-assoc (isInclusion (relationOf t k) && has closed (relationOf t k .left)) (has closed (relationOf t k .right)) _))
+      (λ k b. waiting-applies (relationOf t k) closed everyEvent (has-every (relationOf t k .right) ∙ lt-ltb _ _ (right-small t good k b)))
+
+  first-reviving : firstReason t 8 closed closed ≡ lowest (t .count) (reviving t closed)
+  unfolding firstReason reviving
+  first-reviving = lowest-same _ _ (t .count) (λ k b. reviving-applies (relationOf t k) closed closed)
 
 module _ (t : Table) (good : GoodTable t) (rows : List ℕ) (made : Derived t (t .count) rows) (closed : ℕ) where
   led : (s w : ℕ) → s < 8 → (f : ℕ → Bool) → ((k : ℕ) → k < t .count → eqb (sortOf (relationOf t k)) s && has closed (relationOf t k .left) ≡ f k)
@@ -244,11 +280,11 @@ module _ (t : Table) (good : GoodTable t) (rows : List ℕ) (made : Derived t (t
       (ends-and t (λ k. isResponse (relationOf t k) && has closed (relationOf t k .left)) (bitOr bounded eventual) milestones
       (answers-end bounded eventual one other))
 
-  first-reopening : (milestones : ℕ) → Led rows 2 closed milestones → firstReason t Reopening closed milestones ≡ lowest (t .count) (reopening t closed)
+  first-reopening : (milestones : ℕ) → Led rows 2 closed milestones → firstReason t 4 closed milestones ≡ lowest (t .count) (reopening t closed)
   unfolding firstReason reopening
   first-reopening milestones h =
       lowest-same _ _ (t .count)
-      (λ k b. swapped (isResponse (relationOf t k)) (has closed (relationOf t k .left)) (has milestones (relationOf t k .right))
+      (λ k b. reopening-applies (relationOf t k) closed milestones
       ∙ ap (λ (a : Bool). isResponse (relationOf t k) && has closed (relationOf t k .left) && a) (milestones-end milestones h (relationOf t k .right)))
 
   -- 6
@@ -276,18 +312,19 @@ abbrev pub afterTwo : Table → ℕ → CheckAnswer
 afterTwo t closed = reason 3 (t .count) (waiting t closed) (afterThree t closed)
 
 -- the words are those of a judged table, and the set is one of its events
-pub record Given (t : Table) (rows : List ℕ) (head : Head) (closed : ℕ) : Type 0 where
+pub record Given (t : Table) (rows words : List ℕ) (head : Head) (closed : ℕ) : Type 0 where
   pub good : GoodTable t
   pub made : Derived t (t .count) rows
+  pub followed : Followed t (t .count) words
   pub headed : head ≡ headOf t
   pub fits : closed < 2 ^ t .events
 
-pub given : {t : Table} {rows : List ℕ} {head : Head} {closed : ℕ} → GoodTable t → Derived t (t .count) rows → head ≡ headOf t → closed < 2 ^ t .events
-    → Given t rows head closed
-given good made headed fits = record { good = good; made = made; headed = headed; fits = fits }
+pub given : {t : Table} {rows words : List ℕ} {head : Head} {closed : ℕ} → GoodTable t → Derived t (t .count) rows → Followed t (t .count) words
+    → head ≡ headOf t → closed < 2 ^ t .events → Given t rows words head closed
+given good made followed headed fits = record { good = good; made = made; followed = followed; headed = headed; fits = fits }
 
 -- Each reason: its word is 0 and what is left is said, or it is not and this is the place.
-module _ {t : Table} {rows : List ℕ} {head : Head} {closed : ℕ} (g : Given t rows head closed) where
+module _ {t : Table} {rows words : List ℕ} {head : Head} {closed : ℕ} (g : Given t rows words head closed) where
   module _ (w : ℕ) (made : (x : ℕ) → has w x ≡ (has closed x && not (has (head .causable) x))) where
     two-word : w ≡ setOf (t .events) (uncausable t closed)
     two-word = uncausable-word t closed (g .fits) w (λ x. made x ∙ ap (λ (h : Head). has closed x && not (has (h .causable) x)) (g .headed))
@@ -312,8 +349,8 @@ module _ {t : Table} {rows : List ℕ} {head : Head} {closed : ℕ} (g : Given t
     pub three-none : w ≡ 0 → afterTwo t closed ≡ afterThree t closed
     three-none none = reason-none 3 _ _ _ (ends-none t _ w three-ends none)
 
-    pub three-at : (w ≡ 0 → ⊥) → (r : ℕ) → r ≡ firstReason t Waiting closed 0 → Rejects 3 r ≡ afterTwo t closed
-    three-at filled r at = lies-at 3 w _ _ three-ends filled r (at ∙ first-waiting t closed)
+    pub three-at : (w ≡ 0 → ⊥) → (r : ℕ) → r ≡ firstReason t 2 closed everyEvent → Rejects 3 r ≡ afterTwo t closed
+    three-at filled r at = lies-at 3 w _ _ three-ends filled r (at ∙ first-waiting t (g .good) closed)
 
   module _ (r : ℕ) (at : r ≡ lowest 64 (onCycle t closed)) where
     pub four-none : 64 ≤ r → afterThree t closed ≡ afterFour t closed
@@ -334,7 +371,7 @@ module _ {t : Table} {rows : List ℕ} {head : Head} {closed : ℕ} (g : Given t
       pub five-none : bitAnd (bitOr bounded eventual) milestones ≡ 0 → afterFour t closed ≡ afterFive t closed
       five-none none = reason-none 5 _ _ _ (ends-none t _ _ five-ends none)
 
-      pub five-at : (bitAnd (bitOr bounded eventual) milestones ≡ 0 → ⊥) → (r : ℕ) → r ≡ firstReason t Reopening closed milestones
+      pub five-at : (bitAnd (bitOr bounded eventual) milestones ≡ 0 → ⊥) → (r : ℕ) → r ≡ firstReason t 4 closed milestones
           → Rejects 5 r ≡ afterFour t closed
       five-at filled r at = lies-at 5 _ _ _ five-ends filled r (at ∙ first-reopening t (g .good) rows (g .made) closed milestones led-to)
 
@@ -345,5 +382,5 @@ module _ {t : Table} {rows : List ℕ} {head : Head} {closed : ℕ} (g : Given t
     pub six-none : bitAnd w closed ≡ 0 → afterFive t closed ≡ Accepts
     six-none none = reason-none 6 _ _ _ (ends-none t _ _ six-ends none)
 
-    pub six-at : (bitAnd w closed ≡ 0 → ⊥) → (r : ℕ) → r ≡ firstReason t Reviving closed 0 → Rejects 6 r ≡ afterFive t closed
-    six-at filled r at = lies-at 6 _ _ _ six-ends filled r (at ∙ first-reviving t closed)
+    pub six-at : (bitAnd w closed ≡ 0 → ⊥) → (r : ℕ) → r ≡ firstReason t 8 closed closed → Rejects 6 r ≡ afterFive t closed
+    six-at filled r at = lies-at 6 _ _ _ six-ends filled r (at ∙ first-reviving t (g .good) closed)

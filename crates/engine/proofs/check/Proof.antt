@@ -20,11 +20,22 @@ number c = judged-by _ _ (c .before .judge-table .ensures) (c .then-marking .ens
 granted : (c : tie.Then1) → judged (c .before .before .before .args .t) (c .before .before .before .args .m) ≡ 0
 granted c = sym (number (c .before)) ∙ c .if1 .taken
 
-derived-requires : tie.Need-derived-requires
-derived-requires c κs = (table-good _ _ (granted (c .before .before)), (refl, refl))
+-- The places that the proof looks back to, each from a later one: where the values are judged, where the rows are made, where the words are laid
+-- out, and where the head is known.
+abbrev judging : tie.After-rows-of → tie.Then1
+judging c = c .before .before
+
+abbrev made : tie.After-lay → tie.After-rows-of
+made c = c .before .before .before
+
+abbrev laid : tie.After-head-of → tie.After-lay
+laid c = c .before .before
+
+rows-of-requires : tie.Need-rows-of-requires
+rows-of-requires c κs = (table-good _ _ (granted (c .before)), refl)
 
 lay-requires : tie.Need-lay-requires
-lay-requires c κs = (few-records _ _ (granted (c .before .before .before .before .before)), (refl, refl))
+lay-requires c κs = (few-records _ _ (granted (judging (c .before .before))), (refl, refl))
 
 slice-aggregate-found : tie.Need-slice-aggregate-found
 slice-aggregate-found c = search needs
@@ -34,23 +45,24 @@ head-of-requires c κs = search needs
 
 found-requires : tie.Need-found-requires
 found-requires c κs =
-    let d = granted (c .before .before .before .before .before .before .before .before .before) in
+    let rows = made (laid (c .before)) in
+    let d = granted (judging rows) in
     let head = c .before .head-of .ensures in
-    (rw head (some-events _ _ d), rw head (table-good _ _ d .few-events), c .before .before .before .before .before .before .derived .ensures .0 .size)
+    (rw head (some-events _ _ d), rw head (table-good _ _ d .few-events), rows .rows-of .ensures .size)
 
 verdict-requires : tie.Need-verdict-requires
-verdict-requires c κs = table-good _ _ (granted (c .before .before .before .before .before .before .before .before .before .before))
+verdict-requires c κs = table-good _ _ (granted (judging (made (laid (c .before .before)))))
 
 returns : tie.Need-returns
 returns c =
-    let laid = c .before .before .before .before .before in
-    let judging = laid .before .before .before .before .before .before in
-    let a = judging .before .before .before .args in
-    let d = granted judging in
+    let head = c .before .before .before in
+    let rows = made (laid head) in
+    let a = judging rows .before .before .before .args in
+    let d = granted (judging rows) in
     check-whole _ _
     (c .verdict .ensures
-    ∙ c .before .found .ensures (a .t) (unused (a .m)) 0 _ (a .m) (table-good _ _ d) (laid .before .before .before .derived .ensures .0)
-    (c .before .before .before .head-of .ensures) (laid-out (a .t) (a .m) d (laid .lay .ensures))
+    ∙ c .before .found .ensures (a .t) (unused (a .m)) 0 _ (a .m) (table-good _ _ d) (rows .rows-of .ensures) (head .head-of .ensures)
+    (laid-out (a .t) (a .m) d (laid head .lay .ensures))
     ∙ sym (check-judged _ _ d))
 
 returns-2 : tie.Need-returns-2
@@ -62,7 +74,7 @@ check-spec =
     (tie.spec
     judge-table-requires
     then-marking-requires
-    derived-requires
+    rows-of-requires
     lay-requires
     slice-aggregate-found
     head-of-requires

@@ -1,4 +1,4 @@
--- The word of the relation's sort, and by whether it is in a chain its beginning, and its link. Assumes nothing.
+-- By whether the relation is in a chain its beginning, and its link; then the word of its sort. Assumes nothing.
 use mathlib.Core.Path.{_≡_, _∙_, ap}
 use mathlib.Core.Logic.{⊎-elim}
 use Prim.Native.Nat.{_<_}
@@ -22,12 +22,6 @@ add-place c = omega (arith, sort-few c)
 chain-requires : tie.Need-chain-requires
 chain-requires c κs = search needs
 
-mul-row : tie.Need-mul-row
-mul-row c = omega (arith, sort-few (c .before))
-
-slice-read-row : tie.Need-slice-read-row
-slice-read-row c = omega (arith, sort-few (c .before .before))
-
 add-first : tie.Need-add-first
 add-first c = search needs
 
@@ -39,7 +33,7 @@ slice-read-link c = search needs
 
 link-requires : tie.Need-link-requires
 link-requires c κs =
-    let s = c .before .before .before .before .before .before in
+    let s = c .before .before .before .before .before in
     (omega arith, s .pre .1 .0, s .pre .1 .1)
 
 mul-links : tie.Need-mul-links
@@ -57,6 +51,16 @@ mul-rows c = search needs
 slice-write-rows : tie.Need-slice-write-rows
 slice-write-rows c = search needs
 
+-- the rows stay as long as they were
+rows-kept : (c : tie.After-slice-known3) → length (c .before .if1 .rows) ≡ length (c .before .before .before .before .before .args .rows .now)
+rows-kept c = ⊎-elim (λ w. ap length (w .3) ∙ simp length-set) (λ w. ap length (w .1)) (c .before .if1 .came)
+
+mul-adding : tie.Need-mul-adding
+mul-adding c = omega (arith, sort-few (c .before .before))
+
+slice-read-adding : tie.Need-slice-read-adding
+slice-read-adding c = omega (arith, sort-few (c .before .before .before), rows-kept c)
+
 cast-adding : tie.Need-cast-adding
 cast-adding c = search needs
 
@@ -66,31 +70,27 @@ adding-requires c κs = search needs
 mul-rows-2 : tie.Need-mul-rows-2
 mul-rows-2 c = omega (arith, sort-few (c .before .before .before .before .before))
 
--- the rows stay as long as they were
-rows-kept : (c : tie.After-adding) → length (c .before .before .if1 .rows) ≡ length (c .before .before .before .before .before .before .before .args .rows .now)
-rows-kept c = ⊎-elim (λ w. ap length (w .3) ∙ simp length-set) (λ w. ap length (w .1)) (c .before .before .if1 .came)
-
 slice-write-rows-2 : tie.Need-slice-write-rows-2
-slice-write-rows-2 c = omega (arith, sort-few (c .before .before .before .before .before), rows-kept c)
+slice-write-rows-2 c = omega (arith, sort-few (c .before .before .before .before .before), rows-kept (c .before .before))
 
 same-length : tie.Need-same-length
-same-length c = simp length-set (rows-kept c)
+same-length c = simp length-set (rows-kept (c .before .before))
 
 returns : tie.Need-returns
 returns c =
-    let j = c .before .before in
-    let h = j .before .before .before in
+    let j = c .before .before .before in
+    let h = j .before .before in
     let s = h .before .before in
     let k = s .args .k in
     let rows = s .args .rows .now in
     let links = s .args .links .now in
     ⊎-elim
     (λ w.
-    let done = noted-chained links rows (s .args .at) (s .args .i) k (h .sort .ensures) (j .before .before .chain .ensures) (w .0 .taken) in
-    (rw (w .3, c .adding .ensures) (done .0), rw (w .4, w .2 .ensures, done .1)))
+    let done = noted-chained links rows (s .args .at) (s .args .i) k (h .sort .ensures) (j .before .chain .ensures) (w .0 .taken) in
+    (rw (c .adding .ensures, w .3) (done .0), rw (w .4, w .2 .ensures, done .1)))
     (λ w.
-    let done = noted-alone links rows (s .args .at) (s .args .i) k (h .sort .ensures) (j .before .before .chain .ensures) (w .0 .left) in
-    (rw (w .1, c .adding .ensures) (done .0), rw (w .2) (done .1)))
+    let done = noted-alone links rows (s .args .at) (s .args .i) k (h .sort .ensures) (j .before .chain .ensures) (w .0 .left) in
+    (rw (c .adding .ensures, w .1) (done .0), rw (w .2) (done .1)))
     (j .if1 .came)
 
 pub note-spec : {M : Type 1} → statement M
@@ -100,8 +100,6 @@ note-spec =
     sort-requires
     add-place
     chain-requires
-    mul-row
-    slice-read-row
     add-first
     mul-link
     slice-read-link
@@ -111,6 +109,8 @@ note-spec =
     add-rows
     mul-rows
     slice-write-rows
+    mul-adding
+    slice-read-adding
     cast-adding
     adding-requires
     mul-rows-2

@@ -30,8 +30,8 @@ without-requires c κs = search needs
 element-copy-out-pending : tie.Need-element-copy-out-pending
 element-copy-out-pending c = search needs
 
-reached-requires : tie.Need-reached-requires
-reached-requires c κs = search needs
+with-inhibitors-requires : tie.Need-with-inhibitors-requires
+with-inhibitors-requires c κs = search needs
 
 returns-2 : tie.Need-returns-2
 returns-2 c =
@@ -41,7 +41,7 @@ returns-2 c =
     needed-reached t good _ made m (stands-events _ tail _ (s .args .sets .now) (s .args .columns .now) m stands ∙ sym q) _ _
     (λ x b. c .before .before .without .ensures x ∙ missing-told _ tail _ (s .args .sets .now) (s .args .columns .now) m stands x (rw (← q) b))
     (λ x b. has-and _ _ x ∙ waiting-told _ tail _ (s .args .sets .now) (s .args .columns .now) m stands x (rw (← q) b))
-    _ _ (d .due .ensures tail m stands) (c .reached .ensures)
+    _ _ (d .due .ensures tail m stands) (c .with-inhibitors .ensures)
 
 pub needed-spec : {M : Type 1} → statement M
 needed-spec =
@@ -53,5 +53,5 @@ needed-spec =
     element-copy-out-without
     without-requires
     element-copy-out-pending
-    reached-requires
+    with-inhibitors-requires
     returns-2)

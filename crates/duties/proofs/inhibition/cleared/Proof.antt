@@ -5,7 +5,7 @@ use Rattle.duties.proofs.inhibition.cleared.Statement.{statement}
 use Rattle.duties.proofs.inhibition.cleared.Tie as tie
 
 cleared-down-requires : tie.Need-cleared-down-requires
-cleared-down-requires c κs = (c .before .pre, cleared-none (c .before .args .rows .now))
+cleared-down-requires c κs = cleared-none (c .args .words .now)
 
 cleared-up-requires : tie.Need-cleared-up-requires
 cleared-up-requires c κs = search needs

@@ -6,13 +6,13 @@ use Rattle.duties.proofs.inhibition.cleared_down.Statement.{statement}
 use Rattle.duties.proofs.inhibition.cleared_down.Tie as tie
 
 abbrev Inv-loop : tie.InvT-loop
-Inv-loop rows set cleared wider₀ e₀ wider e = (e ≤ 64) × Cleared rows wider
+Inv-loop words set cleared wider₀ e₀ wider e = (e ≤ 64) × Cleared words wider
 
 abbrev μ-loop : tie.MeasureT-loop
-μ-loop rows set cleared wider₀ e₀ wider e = e
+μ-loop words set cleared wider₀ e₀ wider e = e
 
 loop-holds : tie.Need-loop-holds Inv-loop μ-loop
-loop-holds c = (omega arith, c .before .pre .1)
+loop-holds c = (omega arith, c .pre)
 
 sub-e : tie.Need-sub-e Inv-loop μ-loop
 sub-e c = omega (arith, c .loop-test .taken)
@@ -23,7 +23,7 @@ has-event-requires c κs = omega (arith, c .loop-test .taken, c .before .loop .i
 clearing-requires : tie.Need-clearing-requires Inv-loop μ-loop
 clearing-requires c κs =
     let h = c .before .before in
-    (h .before .before .before .pre .0, (omega (arith, h .loop-test .taken, h .before .loop .inv .0), h .before .loop .inv .1))
+    (omega (arith, h .loop-test .taken, h .before .loop .inv .0), h .before .loop .inv .1)
 
 loop-less : tie.Need-loop-less Inv-loop μ-loop
 loop-less c = let h = c .before .before .before in omega (arith, h .loop-test .taken)

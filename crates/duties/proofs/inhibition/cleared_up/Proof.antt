@@ -10,23 +10,23 @@ use Rattle.duties.proofs.inhibition.cleared_up.Statement.{statement}
 use Rattle.duties.proofs.inhibition.cleared_up.Tie as tie
 
 abbrev Inv-loop : tie.InvT-loop
-Inv-loop rows set cleared wider₀ left₀ wider left = (left < 2 ^ 64) × Cleared rows wider
+Inv-loop words set cleared wider₀ left₀ wider left = (left < 2 ^ 64) × Cleared words wider
 
 abbrev μ-loop : tie.MeasureT-loop
-μ-loop rows set cleared wider₀ left₀ wider left = left
+μ-loop words set cleared wider₀ left₀ wider left = left
 
 -- the lowest event that is left
 event : (c : tie.After-lowest Inv-loop μ-loop) → Found (has (c .before .before .loop .left)) 64 (c .lowest .result)
 event c = lowest-found _ (c .before .before .loop .inv .0) (c .before .loop-test .taken) _ (c .lowest .ensures)
 
 loop-holds : tie.Need-loop-holds Inv-loop μ-loop
-loop-holds c = (c .before .fits .set .fits, c .before .pre .1)
+loop-holds c = (c .fits .set .fits, c .pre)
 
 lowest-requires : tie.Need-lowest-requires Inv-loop μ-loop
 lowest-requires c κs = tt
 
 clearing-requires : tie.Need-clearing-requires Inv-loop μ-loop
-clearing-requires c κs = (c .before .before .before .before .pre .0, (event c .small, c .before .before .loop .inv .1))
+clearing-requires c κs = (event c .small, c .before .before .loop .inv .1)
 
 shl-left : tie.Need-shl-left Inv-loop μ-loop
 shl-left c = omega (arith, event (c .before) .small)

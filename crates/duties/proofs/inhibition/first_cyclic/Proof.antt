@@ -9,7 +9,7 @@ use Rattle.rules.specs.Laws.Counting.{Found}
 use Rattle.rules.specs.Laws.Time.{one-shifted}
 use Rattle.rules.specs.Shapes.Good.{GoodTable}
 use Rattle.rules.specs.Laws.Widened.{has-below}
-use Rattle.acts.specs.Derived.{Derived}
+use Rattle.duties.specs.Inhibition.{Followed}
 use Rattle.acts.specs.Laws.Members.{lowest-found, lowest-worth, lowest-less}
 use Rattle.duties.specs.Laws.Cleared.{cleared-off}
 use Rattle.duties.specs.Laws.Search.{Searched, searched-but, searched-none, searched-here, searched-on}
@@ -17,18 +17,18 @@ use Rattle.duties.proofs.inhibition.first_cyclic.Statement.{statement}
 use Rattle.duties.proofs.inhibition.first_cyclic.Tie as tie
 
 abbrev Inv-loop : tie.InvT-loop
-Inv-loop rows set left₀ left =
-    (left < 2 ^ 64) × ((t : Table) → GoodTable t → Derived t (t .count) rows → set < 2 ^ t .events → Searched (onCycle t set) set left)
+Inv-loop words set left₀ left =
+    (left < 2 ^ 64) × ((t : Table) → GoodTable t → Followed t (t .count) words → set < 2 ^ t .events → Searched (onCycle t set) set left)
 
 abbrev μ-loop : tie.MeasureT-loop
-μ-loop rows set left₀ left = left
+μ-loop words set left₀ left = left
 
 -- the lowest event that is left
 event : (c : tie.After-lowest Inv-loop μ-loop) → Found (has (c .before .before .loop .left)) 64 (c .lowest .result)
 event c = lowest-found _ (c .before .before .loop .inv .0) (c .before .loop-test .taken) _ (c .lowest .ensures)
 
 cleared-requires : tie.Need-cleared-requires Inv-loop μ-loop
-cleared-requires c κs = c .before .pre
+cleared-requires c κs = tt
 
 without-requires : tie.Need-without-requires Inv-loop μ-loop
 without-requires c κs = tt
@@ -36,11 +36,11 @@ without-requires c κs = tt
 loop-holds : tie.Need-loop-holds Inv-loop μ-loop
 unfolding onCycle
 loop-holds c =
-    let s = c .before .before .before in (
+    let s = c .before .before in (
       c .without .ok,
       λ t g d f.
           searched-but _ (s .args .set) (c .before .cleared .result) _ (λ x h. rw h)
-          (λ x h o. rw h (cleared-off (s .args .rows .now) (c .before .cleared .ensures) t g d x (has-below 64 _ x (s .fits .set .fits) h) o))
+          (λ x h o. rw h (cleared-off (s .args .words .now) (c .before .cleared .ensures) t g d x (has-below 64 _ x (s .fits .set .fits) h) o))
           (c .without .ensures),
     )
 
@@ -48,11 +48,11 @@ lowest-requires : tie.Need-lowest-requires Inv-loop μ-loop
 lowest-requires c κs = tt
 
 cyclic-requires : tie.Need-cyclic-requires Inv-loop μ-loop
-cyclic-requires c κs = (c .before .before .before .before .before .before .pre, event c .small)
+cyclic-requires c κs = event c .small
 
--- what is told of it, by a table that has these rows
-told : (c : tie.After-cyclic Inv-loop μ-loop) → let s = c .before .before .before .before .before .before .before in
-    (t : Table) → GoodTable t → Derived t (t .count) (s .args .rows .now) → s .args .set < 2 ^ t .events
+-- what is told of it, by a table that has these words
+told : (c : tie.After-cyclic Inv-loop μ-loop) → let s = c .before .before .before .before .before .before in
+    (t : Table) → GoodTable t → Followed t (t .count) (s .args .words .now) → s .args .set < 2 ^ t .events
     → onCycle t (s .args .set) (c .before .lowest .result) ≡ c .cyclic .result
 unfolding onCycle
 told c t g d f =

@@ -10,7 +10,7 @@ use borrow.Author.Tests.{eq-eqb, ne-eqb}
 use Rattle.rules.specs.EventSet.{has}
 use Rattle.rules.specs.Laws.Counting.{Found}
 use Rattle.rules.specs.Laws.Time.{one-shifted}
-use Rattle.duties.specs.Inhibition.{inhibitorsIn}
+use Rattle.duties.specs.Inhibition.{followedIn}
 use Rattle.acts.specs.Laws.Members.{lowest-found, lowest-worth, lowest-less}
 use Rattle.acts.specs.Laws.Each.{chosen-start, chosen-in, chosen-out, chosen-end}
 use Rattle.duties.proofs.ready.freed.Statement.{statement}
@@ -18,7 +18,7 @@ use Rattle.duties.proofs.ready.freed.Tie as tie
 
 -- an event has no inhibitor left
 abbrev isFree : List ℕ → ℕ → ℕ → Bool
-isFree rows untaken e = eqb (inhibitorsIn rows untaken untaken e) 0
+isFree rows untaken e = eqb (followedIn rows untaken untaken e) 0
 
 abbrev Inv-loop : tie.InvT-loop
 Inv-loop rows waited untaken found₀ left₀ found left =
@@ -39,8 +39,8 @@ loop-holds c =
 lowest-requires : tie.Need-lowest-requires Inv-loop μ-loop
 lowest-requires c κs = tt
 
-inhibitors-requires : tie.Need-inhibitors-requires Inv-loop μ-loop
-inhibitors-requires c κs = (c .before .before .before .before .pre, event c .small)
+followed-requires : tie.Need-followed-requires Inv-loop μ-loop
+followed-requires c κs = (c .before .before .before .before .pre, event c .small)
 
 adding-requires : tie.Need-adding-requires Inv-loop μ-loop
 adding-requires c κs = event (c .before .before) .small
@@ -67,7 +67,7 @@ loop-again c =
     let f = isFree (s .args .rows .now) (s .args .untaken) in
     let e = c .before .before .lowest .result in
     let p = event (c .before .before) in
-    let told = c .before .inhibitors .ensures in
+    let told = c .before .followed .ensures in
     rw (one-shifted e (p .small)) (
       omega (arith, h .loop .inv .0),
       λ x.
@@ -91,7 +91,7 @@ freed-spec =
     μ-loop
     loop-holds
     lowest-requires
-    inhibitors-requires
+    followed-requires
     adding-requires
     shl-left
     sub-left

@@ -12,7 +12,7 @@ use borrow.Author.Tests.{eq-eqb, ne-eqb}
 use Rattle.rules.specs.EventSet.{has}
 use Rattle.rules.specs.Laws.Counting.{Found}
 use Rattle.rules.specs.Laws.Time.{one-shifted}
-use Rattle.duties.specs.Inhibition.{inhibitorsIn, readyIn}
+use Rattle.duties.specs.Inhibition.{followedIn, readyIn}
 use Rattle.acts.specs.Laws.Members.{lowest-found, lowest-worth, lowest-less}
 use Rattle.acts.specs.Laws.Each.{chosen-start, chosen-in, chosen-out, chosen-end}
 use Rattle.duties.specs.Laws.Ready.{waitsFor, awaits-start, awaits-more}
@@ -21,7 +21,7 @@ use Rattle.duties.proofs.ready.ready.Tie as tie
 
 -- an event has no inhibitor in the set
 abbrev isFree : List ℕ → ℕ → ℕ → Bool
-isFree rows set e = eqb (inhibitorsIn rows set set e) 0
+isFree rows set e = eqb (followedIn rows set set e) 0
 
 abbrev Inv-loop : tie.InvT-loop
 Inv-loop rows set waiting₀ found₀ left₀ waiting found left =
@@ -49,8 +49,8 @@ loop-holds c =
 lowest-requires : tie.Need-lowest-requires Inv-loop μ-loop
 lowest-requires c κs = tt
 
-inhibitors-requires : tie.Need-inhibitors-requires Inv-loop μ-loop
-inhibitors-requires c κs = (c .before .before .before .before .pre .0, event c .small)
+followed-requires : tie.Need-followed-requires Inv-loop μ-loop
+followed-requires c κs = (c .before .before .before .before .pre .0, event c .small)
 
 adding-requires : tie.Need-adding-requires Inv-loop μ-loop
 adding-requires c κs = event (c .before .before) .small
@@ -79,7 +79,7 @@ loop-again c =
     let f = isFree (s .args .rows .now) (s .args .set) in
     let e = l .lowest .result in
     let inside = event l .holds in
-    let told = c .before .before .before .inhibitors .ensures in
+    let told = c .before .before .before .followed .ensures in
     rw (one-shifted e (event l .small)) (
       omega (arith, h .loop .inv .0),
       c .await-each .ensures .0,
@@ -109,7 +109,7 @@ ready-spec =
     μ-loop
     loop-holds
     lowest-requires
-    inhibitors-requires
+    followed-requires
     adding-requires
     await-each-requires
     shl-left

@@ -1,6 +1,6 @@
 -- No relation below i has the reason. Assumes nothing.
 use mathlib.Core.Path.{_≡_, _∙_, sym}
-use Prim.Native.Nat.{_≤_, _-_}
+use Prim.Native.Nat.{_<_, _≤_, _-_}
 use native.Mathlib.Omega.{arith}
 use borrow.Author.Needs.{needs}
 use Rattle.rules.specs.Counting.{lowest}
@@ -11,10 +11,10 @@ use Rattle.duties.proofs.reasons.first_reason.Statement.{statement}
 use Rattle.duties.proofs.reasons.first_reason.Tie as tie
 
 abbrev Inv-loop : tie.InvT-loop
-Inv-loop what closed milestones t n i₀ i = (i ≤ n) × (n ≡ t .count) × (lowest i (isReason t what closed milestones) ≡ i)
+Inv-loop kinds lefts rights t n i₀ i = (i ≤ n) × (n ≡ t .count) × (lowest i (isReason t kinds lefts rights) ≡ i)
 
 abbrev μ-loop : tie.MeasureT-loop
-μ-loop what closed milestones t n i₀ i = n - i
+μ-loop kinds lefts rights t n i₀ i = n - i
 
 loop-holds : tie.Need-loop-holds Inv-loop μ-loop
 loop-holds c = (search needs, search needs, lowest-zero _)
@@ -29,7 +29,11 @@ applies-requires : tie.Need-applies-requires Inv-loop μ-loop
 applies-requires c κs =
     let h = c .before .before in
     let s = h .before in
-    (left-small (s .args .t1) (s .pre) (h .loop .i) (omega arith), right-small (s .args .t1) (s .pre) (h .loop .i) (omega arith))
+    let b : h .loop .i < s .args .t1 .count = omega arith in (
+      omega (arith, s .pre .relations-good (h .loop .i) b .kind-small),
+      left-small (s .args .t1) (s .pre) (h .loop .i) b,
+      right-small (s .args .t1) (s .pre) (h .loop .i) b,
+    )
 
 returns : tie.Need-returns Inv-loop μ-loop
 unfolding firstReason

@@ -12,7 +12,6 @@ use Rattle.rules.specs.EventSet.{has}
 use Rattle.rules.specs.Laws.Counting.{Found}
 use Rattle.rules.specs.Laws.Time.{one-shifted}
 use Rattle.rules.specs.Laws.Turns.{worth-le}
-use Rattle.acts.specs.Derived.{everyEvent}
 use Rattle.duties.specs.Inhibition.{inhibitorsIn, heldIn}
 use Rattle.acts.specs.Laws.Members.{lowest-found}
 use Rattle.acts.specs.Laws.Each.{chosen-start, chosen-in, chosen-out, chosen-end}
@@ -27,7 +26,7 @@ abbrev μ-loop : tie.MeasureT-loop
 
 -- an event has an inhibitor
 abbrev isHeld : List ℕ → ℕ → Bool
-isHeld rows e = not (eqb (inhibitorsIn rows everyEvent everyEvent e) 0)
+isHeld rows e = not (eqb (inhibitorsIn rows e) 0)
 
 loop-holds : tie.Need-loop-holds Inv-loop μ-loop
 loop-holds c =

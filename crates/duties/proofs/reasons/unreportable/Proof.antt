@@ -35,7 +35,7 @@ returns c =
     let f = u .before in
     let s = f .before .before in
     λ t tail clock columns m good made q stands.
-    unreportable-word t good m _ made _ (λ x. f .first .ensures x ∙ ap (λ (h : Head). ltb x (h .events)) q) _ _ _ _ _
+    unreportable-word t good m _ (λ x. f .first .ensures x ∙ ap (λ (h : Head). ltb x (h .events)) q) _ made _ _ _ _ _
     (λ x b. included-told _ tail clock (s .args .sets .now) columns m stands x b) (g .without2 .ensures) (c .before .led-to .ensures)
     (λ x. u .without .ensures x ∙ ap (λ (h : Head). has (f .first .result) x && not (has (h .controllable) x)) q) (c .held .ensures)
 

@@ -14,9 +14,6 @@ enum-known-found c = search needs
 enum-known-found-2 : tie.Need-enum-known-found-2
 enum-known-found-2 c = search needs
 
-number-of-requires : tie.Need-number-of-requires
-number-of-requires c κs = search needs
-
 first-reason-requires : tie.Need-first-reason-requires
 first-reason-requires c κs = search needs
 
@@ -27,9 +24,7 @@ returns-2 : tie.Need-returns-2
 returns-2 c = ap (verdictBy _) (sym (c .before .found .given .1))
 
 returns-3 : tie.Need-returns-3
-returns-3 c =
-    let known = c .before .before .before in
-    rw (c .before .number-of .ensures, c .first-reason .ensures) (ap (verdictBy _) (sym (known .found2 .given .1)))
+returns-3 c = rw (c .first-reason .ensures) (ap (verdictBy _) (sym (c .before .before .found2 .given .1)))
 
 pub verdict-spec : {M : Type 1} → statement M
 verdict-spec =
@@ -38,7 +33,6 @@ verdict-spec =
     enum-told
     enum-known-found
     enum-known-found-2
-    number-of-requires
     first-reason-requires
     returns
     returns-2

@@ -6,37 +6,37 @@ use native.Mathlib.Omega.{arith}
 use Rattle.rules.specs.Counting.{howMany}
 use Rattle.rules.specs.EventSet.{has}
 use Rattle.rules.specs.Laws.Time.{one-shifted}
-use Rattle.duties.specs.Inhibition.{inhibitorsIn}
 use Rattle.acts.specs.Laws.Members.{lowest-worth}
+use Rattle.duties.specs.Inhibition.{followedIn}
 use Rattle.duties.specs.Laws.Reached.{waits, Reaching, reaching-start, reaching-end, reaching-small, reaching-more, reaching-less}
-use Rattle.duties.proofs.inhibition.reached.Statement.{statement}
-use Rattle.duties.proofs.inhibition.reached.Tie as tie
+use Rattle.duties.proofs.guard.with_inhibitors.Statement.{statement}
+use Rattle.duties.proofs.guard.with_inhibitors.Tie as tie
 
 abbrev Inv-loop : tie.InvT-loop
-Inv-loop rows conditions milestones set found₀ unopened₀ found unopened = Reaching rows conditions milestones set found unopened
+Inv-loop rows missing pending set found₀ unopened₀ found unopened = Reaching (followedIn rows missing pending) set found unopened
 
 abbrev μ-loop : tie.MeasureT-loop
-μ-loop rows conditions milestones set found₀ unopened₀ found unopened = howMany 64 (waits found unopened)
+μ-loop rows missing pending set found₀ unopened₀ found unopened = howMany 64 (waits found unopened)
 
 -- the event of this turn
 small : (c : tie.After-lowest Inv-loop μ-loop) → c .lowest .result < 64
-small c = reaching-small _ _ _ _ (c .before .before .loop .inv) (c .before .loop-test .taken) _ (c .lowest .ensures)
+small c = reaching-small _ _ (c .before .before .loop .inv) (c .before .loop-test .taken) _ (c .lowest .ensures)
 
 -- and its inhibitors that were not found
 new : (c : tie.After-without Inv-loop μ-loop) → let h = c .before .before .before .before in let s = h .before .before in
     (x : ℕ) → has (c .without .result) x
-    ≡ (has (inhibitorsIn (s .args .rows .now) (s .args .conditions) (s .args .milestones) (c .before .before .lowest .result)) x
+    ≡ (has (followedIn (s .args .rows .now) (s .args .missing) (s .args .pending) (c .before .before .lowest .result)) x
     && not (has (h .loop .found) x))
-new c x = c .without .ensures x ∙ ap (λ (w : ℕ). has w x && not (has (c .before .before .before .before .loop .found) x)) (c .before .inhibitors .ensures)
+new c x = c .without .ensures x ∙ ap (λ (w : ℕ). has w x && not (has (c .before .before .before .before .loop .found) x)) (c .before .followed .ensures)
 
 loop-holds : tie.Need-loop-holds Inv-loop μ-loop
-loop-holds c = reaching-start _ _ _ _ (c .before .fits .set .fits)
+loop-holds c = reaching-start _ _ (c .before .fits .set .fits)
 
 lowest-requires : tie.Need-lowest-requires Inv-loop μ-loop
 lowest-requires c κs = tt
 
-inhibitors-requires : tie.Need-inhibitors-requires Inv-loop μ-loop
-inhibitors-requires c κs = (c .before .before .before .before .pre, small c)
+followed-requires : tie.Need-followed-requires Inv-loop μ-loop
+followed-requires c κs = (c .before .before .before .before .pre, small c)
 
 without-requires : tie.Need-without-requires Inv-loop μ-loop
 without-requires c κs = tt
@@ -53,26 +53,26 @@ loop-less : tie.Need-loop-less Inv-loop μ-loop
 loop-less c =
     let h = c .before .before .before in
     rw (one-shifted _ (small (c .before .before)))
-    (reaching-less _ _ _ _ (h .before .loop .inv) (h .loop-test .taken) _ (c .before .before .lowest .ensures) _ (c .without .ok) (new c))
+    (reaching-less _ _ (h .before .loop .inv) (h .loop-test .taken) _ (c .before .before .lowest .ensures) _ (c .without .ok) (new c))
 
 loop-again : tie.Need-loop-again Inv-loop μ-loop
 loop-again c =
     let h = c .before .before .before in
     rw (one-shifted _ (small (c .before .before)))
-    (reaching-more _ _ _ _ (h .before .loop .inv) (h .loop-test .taken) _ (c .before .before .lowest .ensures) _ (c .without .ok) (new c))
+    (reaching-more _ _ (h .before .loop .inv) (h .loop-test .taken) _ (c .before .before .lowest .ensures) _ (c .without .ok) (new c))
 
 returns : tie.Need-returns Inv-loop μ-loop
-returns c = reaching-end _ _ _ _ (c .before .loop .inv) (c .loop-test .left)
+returns c = reaching-end _ _ (c .before .loop .inv) (c .loop-test .left)
 
-pub reached-spec : {M : Type 1} → statement M
-reached-spec =
+pub with-inhibitors-spec : {M : Type 1} → statement M
+with-inhibitors-spec =
     tie.close
     (tie.spec
     Inv-loop
     μ-loop
     loop-holds
     lowest-requires
-    inhibitors-requires
+    followed-requires
     without-requires
     shl-unopened
     sub-unopened
