@@ -9,7 +9,7 @@ ghost use mathlib.Core.Path.{_≡_};
 ghost use Prim.Native.Nat.{_<_, _≤_, _+_};
 ghost use lib.ListN.{length, replicate};
 ghost use Rattle.rules.specs.Shapes.Good.{GoodTable, GoodRelation};
-ghost use Rattle.acts.specs.Derived.{sortOf, chainOf, linkOf, linksNoted, rowsNoted, headOf, Own, Derived, Linked};
+ghost use Rattle.acts.specs.Derived.{sortOf, chainOf, linkOf, linksNoted, rowsNoted, Own, Derived, Linked};
 
 // How many words a row has.
 pub const WIDTH: usize = 10;
@@ -42,13 +42,14 @@ pub struct Head {
     pub events: usize,
 }
 
-pub fn head_of(t: Table) -> Head
-    ensures { λ r. ⌜ r ≡ headOf t ⌝ }
+// Of the table's own parts: who is handed the table copies it.
+pub fn head_of(controllable: u64, causable: u64, events: usize) -> Head
+    ensures { λ r. ⌜ r ≡ record { controllable = controllable; causable = causable; events = events } ⌝ }
 {
     Head {
-        controllable: t.controllable,
-        causable: t.causable,
-        events: t.events,
+        controllable,
+        causable,
+        events,
     }
 }
 

@@ -213,7 +213,8 @@ pub fn check(t: Table, m: Marking) -> CheckAnswer
         let mut columns = [0; 192];
         derived::rows_of(t, &mut rows);
         laid::lay(m, &mut sets, &mut columns);
-        let found = reasons::found(&rows, derived::head_of(t), &sets);
+        let head = derived::head_of(t.controllable, t.causable, t.events);
+        let found = reasons::found(&rows, head, &sets);
         return reasons::verdict(t, found);
     }
     CheckAnswer::Refused(number)
@@ -233,7 +234,8 @@ pub fn guarded_tick(t: Table, m: Marking) -> GuardedAnswer
     let mut columns = [0; 192];
     derived::derived(t, &mut rows, &mut links);
     laid::lay(m, &mut sets, &mut columns);
-    let found = reasons::found(&rows, derived::head_of(t), &sets);
+    let head = derived::head_of(t.controllable, t.causable, t.events);
+    let found = reasons::found(&rows, head, &sets);
     let verdict = reasons::verdict(t, found);
     match verdict {
         CheckAnswer::Refused(number) => refusing::nothing(number, 0, 0, m),
@@ -295,7 +297,7 @@ pub fn remedies<'a>(
     let mut columns = [0; 192];
     derived::derived(t, &mut rows, &mut links);
     laid::lay(m, &mut sets, &mut columns);
-    let head = derived::head_of(t);
+    let head = derived::head_of(t.controllable, t.causable, t.events);
     let mut first_sets = sets;
     let mut first_columns = columns;
     let first = remedy::tried(

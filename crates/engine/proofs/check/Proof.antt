@@ -29,7 +29,7 @@ abbrev made : tie.After-lay → tie.After-rows-of
 made c = c .before .before .before
 
 abbrev laid : tie.After-head-of → tie.After-lay
-laid c = c .before .before
+laid c = c .before
 
 rows-of-requires : tie.Need-rows-of-requires
 rows-of-requires c κs = (table-good _ _ (granted (c .before)), refl)
@@ -37,25 +37,25 @@ rows-of-requires c κs = (table-good _ _ (granted (c .before)), refl)
 lay-requires : tie.Need-lay-requires
 lay-requires c κs = (few-records _ _ (granted (judging (c .before .before))), (refl, refl))
 
-slice-aggregate-found : tie.Need-slice-aggregate-found
-slice-aggregate-found c = search needs
-
 head-of-requires : tie.Need-head-of-requires
 head-of-requires c κs = search needs
 
+slice-aggregate-found : tie.Need-slice-aggregate-found
+slice-aggregate-found c = search needs
+
 found-requires : tie.Need-found-requires
 found-requires c κs =
-    let rows = made (laid (c .before)) in
+    let rows = made (laid (c .before .before)) in
     let d = granted (judging rows) in
-    let head = c .before .head-of .ensures in
+    let head = c .before .before .head-of .ensures in
     (rw head (some-events _ _ d), rw head (table-good _ _ d .few-events), rows .rows-of .ensures .size)
 
 verdict-requires : tie.Need-verdict-requires
-verdict-requires c κs = table-good _ _ (granted (judging (made (laid (c .before .before)))))
+verdict-requires c κs = table-good _ _ (granted (judging (made (laid (c .before .before .before)))))
 
 returns : tie.Need-returns
 returns c =
-    let head = c .before .before .before in
+    let head = c .before .before .before .before in
     let rows = made (laid head) in
     let a = judging rows .before .before .before .args in
     let d = granted (judging rows) in
@@ -76,8 +76,8 @@ check-spec =
     then-marking-requires
     rows-of-requires
     lay-requires
-    slice-aggregate-found
     head-of-requires
+    slice-aggregate-found
     found-requires
     verdict-requires
     returns

@@ -24,10 +24,10 @@ abbrev made : tie.After-lay → tie.After-derived
 made c = c .before .before .before
 
 abbrev laid : tie.After-head-of → tie.After-lay
-laid c = c .before .before
+laid c = c .before
 
 abbrev known : tie.After-verdict → tie.After-head-of
-known c = c .before .before .before
+known c = c .before .before .before .before
 
 abbrev refused : tie.After-nothing2 → tie.After-verdict
 refused c = c .before .before .before .before
@@ -69,20 +69,21 @@ derived-requires c κs = (table-good _ _ (granted (c .before .before)), (refl, r
 lay-requires : tie.Need-lay-requires
 lay-requires c κs = (few-records _ _ (granted (judged-at (c .before .before))), (refl, refl))
 
-slice-aggregate-found : tie.Need-slice-aggregate-found
-slice-aggregate-found c = search needs
-
 head-of-requires : tie.Need-head-of-requires
 head-of-requires c κs = search needs
 
+slice-aggregate-found : tie.Need-slice-aggregate-found
+slice-aggregate-found c = search needs
+
 found-requires : tie.Need-found-requires
 found-requires c κs =
-    let d = granted (judging (c .before)) in
-    let head = c .before .head-of .ensures in
-    (rw head (some-events _ _ d), rw head (table-good _ _ d .few-events), made (laid (c .before)) .derived .ensures .0 .size)
+    let known-head = c .before .before in
+    let d = granted (judging known-head) in
+    let head = known-head .head-of .ensures in
+    (rw head (some-events _ _ d), rw head (table-good _ _ d .few-events), made (laid known-head) .derived .ensures .0 .size)
 
 verdict-requires : tie.Need-verdict-requires
-verdict-requires c κs = table-good _ _ (granted (judging (c .before .before)))
+verdict-requires c κs = table-good _ _ (granted (judging (c .before .before .before)))
 
 told : (c : tie.After-verdict) → let a = start (judging (known c)) .args in c .verdict .result ≡ verdict (a .t) (a .m)
 told c =
@@ -162,8 +163,8 @@ guarded-tick-spec =
     returns
     derived-requires
     lay-requires
-    slice-aggregate-found
     head-of-requires
+    slice-aggregate-found
     found-requires
     verdict-requires
     enum-known-verdict

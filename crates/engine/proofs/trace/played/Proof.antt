@@ -83,7 +83,10 @@ slice-write-answers c =
     omega (arith, playing at .going .after .same-room, start at .pre .1 .0)
 
 add-i : tie.Need-add-i Inv-loop μ-loop
-add-i c = omega arith
+add-i c =
+    let at = c .before .before .before .before .before .before .before .before in
+    let more : at .loop .i < length (start at .args .steps .now) / 2 = omega arith in
+    omega (arith, more, start at .pre .1 .1)
 
 loop-less : tie.Need-loop-less Inv-loop μ-loop
 loop-less c = omega arith
