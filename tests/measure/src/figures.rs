@@ -20,6 +20,16 @@ pub struct Row {
 /// The heading of what a call takes of the stack, in bytes.
 pub const STACK: &str = "stack";
 
+/// The calls of the measured stack and their bytes; none where it is not measured.
+pub fn stack(measured: &[Section]) -> Option<Vec<(&str, u64)>> {
+    let section = measured.iter().find(|section| section.heading == STACK)?;
+    let mut calls = Vec::new();
+    for row in &section.rows {
+        calls.extend(row.figures.iter().map(|&bytes| (row.name.as_str(), bytes)));
+    }
+    Some(calls)
+}
+
 /// The heading of the instructions that calls take on such a machine.
 pub fn instructions(machine: &str) -> String {
     format!("instructions on {machine}")
@@ -65,6 +75,10 @@ pub fn read(text: &str) -> Result<Vec<Section>, String> {
             }
             None => {
                 let (heading, columns) = cells(line).ok_or_else(unread)?;
+                // Of two, only one would be held, and only one written.
+                if sections.iter().any(|section| section.heading == heading) {
+                    return Err(format!("two sections have this heading: {heading}"));
+                }
                 sections.push(Section {
                     heading,
                     columns: columns.into_iter().map(str::to_string).collect(),
@@ -205,6 +219,22 @@ check | 100
                 "{line}"
             );
         }
+    }
+
+    #[test]
+    fn a_heading_stands_once() {
+        let twice = LIMITS.replace(
+            "instructions on x86_64 | 4×8 | 16×64",
+            "stack | 4×8 | 16×64",
+        );
+        let told = "two sections have this heading: stack";
+        assert_eq!(read(&twice), Err(told.to_string()));
+    }
+
+    #[test]
+    fn the_stack_is_told_apart() {
+        assert_eq!(stack(&limits()), Some(vec![("check", 100)]));
+        assert_eq!(stack(&limits()[..1]), None);
     }
 
     #[test]
