@@ -78,6 +78,10 @@ pub record Linked (t : Table) (n : ℕ) (rows links : List ℕ) : Type 0 where
   pub link : (k : ℕ) → k < n → isChained (relationOf t k) ≡ true
       → getD links k 0 ≡ linkOf (lastOf t (sortOf (relationOf t k)) (relationOf t k .left) k) (relationOf t k)
 
+-- rows in which no chain begins: no relation is linked
+abbrev pub Unlinked : List ℕ → Type 0
+Unlinked rows = (e : ℕ) → e < 64 → (getD rows (10 * e + 8) 0 ≡ 0) × (getD rows (10 * e + 9) 0 ≡ 0)
+
 -- Noting relation i: in the row of its left event, which stands from `at` on, and in its chain
 unfoldable pub rowsNoted : List ℕ → ℕ → ℕ → Relation → List ℕ
 rowsNoted rows at i k =

@@ -9,7 +9,7 @@ ghost use mathlib.Core.Path.{_≡_};
 ghost use Prim.Native.Nat.{_<_, _≤_, _+_};
 ghost use lib.ListN.{length, replicate};
 ghost use Rattle.rules.specs.Shapes.Good.{GoodTable, GoodRelation};
-ghost use Rattle.acts.specs.Derived.{sortOf, chainOf, linkOf, linksNoted, rowsNoted, Own, Derived, Linked};
+ghost use Rattle.acts.specs.Derived.{sortOf, chainOf, linkOf, linksNoted, rowsNoted, Own, Derived, Linked, Unlinked};
 
 // How many words a row has.
 pub const WIDTH: usize = 10;
@@ -145,6 +145,7 @@ pub fn rows_of(t: Table, rows: &mut [u64; 640])
     requires { ⌜ GoodTable t ⌝ }
     requires { ⌜ now rows ≡ replicate 640 0 ⌝ }
     ensures { λ _. ⌜ Derived t (t .count) (now (rows .exit)) ⌝ }
+    ensures { λ _. ⌜ Unlinked (now (rows .exit)) ⌝ }
 {
     let n = t.count;
     let mut i = 0;

@@ -6,10 +6,11 @@ use Prim.Native.Nat.{ℕ, _<_}
 use native.Mathlib.Omega.{arith}
 use lib.ListN.{length, getD}
 use lib.Seq.{ext-getD}
+use Rattle.rules.specs.declared.Table.{Table}
 use Rattle.rules.specs.EventSet.{has}
 use Rattle.rules.specs.Laws.Tests.{same-test}
 use Rattle.rules.specs.Laws.Turns.{same-word}
-use Rattle.duties.specs.Inhibition.{Reached}
+use Rattle.duties.specs.Inhibition.{Followed, Reached}
 use Rattle.duties.specs.Reasons.{Led}
 use Rattle.duties.specs.Taking.{Awaits}
 
@@ -17,6 +18,12 @@ use Rattle.duties.specs.Taking.{Awaits}
 pub reached-once : {word : ℕ → ℕ} {set r s : ℕ} → Reached word set r → Reached word set s → r ≡ s
 reached-once {word} {set} {r} {s} p q =
     same-word r s (λ x. same-test (has r x) (has s x) (p .within (has s) (q .starts) (q .on) x) (q .within (has r) (p .starts) (p .on) x))
+
+-- the words of what is followed, `words`
+pub followed-once : (t : Table) (n : ℕ) (words others : List ℕ) → Followed t n words → Followed t n others → words ≡ others
+followed-once t n words others p q =
+    ext-getD 0 words others (p .size ∙ sym (q .size))
+    (λ i l. same-word _ _ (λ x. p .word i (omega (arith, l, p .size)) x ∙ sym (q .word i (omega (arith, l, p .size)) x)))
 
 -- `led_to`; `held`, `ready` and `freed` are told by their members alone (acts, `members-once`)
 pub led-once : (rows : List ℕ) (sort set : ℕ) {r s : ℕ} → Led rows sort set r → Led rows sort set s → r ≡ s

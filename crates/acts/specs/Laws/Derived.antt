@@ -22,7 +22,7 @@ use Rattle.rules.specs.Laws.Tests.{and-false, or-false}
 use Rattle.rules.specs.Laws.Counting.{some-none, some-more}
 use Rattle.rules.specs.Laws.EventSet.{has-with, has-zero}
 use Rattle.rules.specs.Laws.Granted.{time-fits}
-use Rattle.acts.specs.Derived.{sortOf, rowOf, sorted, Derived, chainOf, isChained, linkOf, rowsNoted, linksNoted}
+use Rattle.acts.specs.Derived.{sortOf, rowOf, sorted, Derived, Unlinked, chainOf, isChained, linkOf, rowsNoted, linksNoted}
 
 -- what a relation of a judged table holds fits its digits
 module _ (t : Table) (g : GoodTable t) (k : ℕ) (b : k < t .count) where
@@ -64,6 +64,9 @@ derived-none t = record {
   row = λ e b s m x. ap (λ (w : ℕ). has w x) (getD-replicate 640 (10 * e + s) 0 0 (omega arith)) ∙ has-zero x ∙ sym (some-none (sorted t s e x));
 }
 
+pub unlinked-none : Unlinked (replicate 640 0)
+unlinked-none e b = (getD-replicate 640 (10 * e + 8) 0 0 (omega arith), getD-replicate 640 (10 * e + 9) 0 0 (omega arith))
+
 module _ (t : Table) (i : ℕ) (small : relationOf t i .left < 64) where
   abbrev noting : Relation
   noting = relationOf t i
@@ -78,6 +81,15 @@ module _ (t : Table) (i : ℕ) (small : relationOf t i .left < 64) where
   module _ (rows : List ℕ) (old : Derived t i rows) where
     abbrev rows-after : List ℕ
     rows-after = set rows place (withEvent (getD rows place 0) (noting .right))
+
+    pub unlinked-more : Unlinked rows
+        → Unlinked
+        (set rows (10 * relationOf t i .left + sortOf (relationOf t i))
+        (withEvent (getD rows (10 * relationOf t i .left + sortOf (relationOf t i)) 0) (relationOf t i .right)))
+    unlinked-more none e b = (
+      getD-set-other rows place (10 * e + 8) _ 0 (λ h. absurd (omega (arith, sort-small noting, h))) ∙ none e b .0,
+      getD-set-other rows place (10 * e + 9) _ 0 (λ h. absurd (omega (arith, sort-small noting, h))) ∙ none e b .1,
+    )
 
     pub derived-more : Derived t (i + 1)
         (set rows (10 * relationOf t i .left + sortOf (relationOf t i))

@@ -48,7 +48,7 @@ found-requires c κs =
     let rows = made (laid (c .before .before)) in
     let d = granted (judging rows) in
     let head = c .before .before .head-of .ensures in
-    (rw head (some-events _ _ d), rw head (table-good _ _ d .few-events), rows .rows-of .ensures .size)
+    (rw head (some-events _ _ d), rw head (table-good _ _ d .few-events), rows .rows-of .ensures .0 .size)
 
 verdict-requires : tie.Need-verdict-requires
 verdict-requires c κs = table-good _ _ (granted (judging (made (laid (c .before .before .before)))))
@@ -61,7 +61,7 @@ returns c =
     let d = granted (judging rows) in
     check-whole _ _
     (c .verdict .ensures
-    ∙ c .before .found .ensures (a .t) (unused (a .m)) 0 _ (a .m) (table-good _ _ d) (rows .rows-of .ensures) (head .head-of .ensures)
+    ∙ c .before .found .ensures (a .t) (unused (a .m)) 0 _ (a .m) (table-good _ _ d) (rows .rows-of .ensures .0) (head .head-of .ensures)
     (laid-out (a .t) (a .m) d (laid head .lay .ensures))
     ∙ sym (check-judged _ _ d))
 

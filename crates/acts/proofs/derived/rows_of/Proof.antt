@@ -4,19 +4,19 @@ use Prim.Native.Nat.{_≤_, _<_, _+_, _*_, _-_}
 use native.Mathlib.Omega.{arith}
 use borrow.Author.Needs.{needs}
 use Rattle.rules.specs.Holds.{relationOf}
-use Rattle.acts.specs.Derived.{Derived}
-use Rattle.acts.specs.Laws.Derived.{left-small, right-small, derived-none, place-small, derived-more}
+use Rattle.acts.specs.Derived.{Derived, Unlinked}
+use Rattle.acts.specs.Laws.Derived.{left-small, right-small, derived-none, unlinked-none, place-small, derived-more, unlinked-more}
 use Rattle.acts.proofs.derived.rows_of.Statement.{statement}
 use Rattle.acts.proofs.derived.rows_of.Tie as tie
 
 abbrev Inv-loop : tie.InvT-loop
-Inv-loop rows₀ t n i₀ rows i = (i ≤ n) × (n ≡ t .count) × Derived t i rows
+Inv-loop rows₀ t n i₀ rows i = (i ≤ n) × (n ≡ t .count) × Derived t i rows × Unlinked rows
 
 abbrev μ-loop : tie.MeasureT-loop
 μ-loop rows₀ t n i₀ rows i = n - i
 
 loop-holds : tie.Need-loop-holds Inv-loop μ-loop
-loop-holds c = (search needs, search needs, rw (c .pre .1) (derived-none (c .args .t1)))
+loop-holds c = (search needs, search needs, rw (c .pre .1) (derived-none (c .args .t1)), rw (c .pre .1) unlinked-none)
 
 mul-k : tie.Need-mul-k Inv-loop μ-loop
 mul-k c = omega arith
@@ -79,13 +79,14 @@ loop-again c =
       omega arith,
       search needs,
       rw (c .adding .ensures, w .sort .ensures) (derived-more (s .args .t1) (h .loop .i) (left-few w) (h .loop .rows) (h .loop .inv .2)),
+      rw (c .adding .ensures, w .sort .ensures) (unlinked-more (s .args .t1) (h .loop .i) (left-few w) (h .loop .rows) (h .loop .inv .2) (h .loop .inv .3)),
     )
 
 returns : tie.Need-returns Inv-loop μ-loop
 returns c =
     let h = c .before in
     let all : h .loop .i ≡ h .before .args .t1 .count = omega arith in
-    rw all at (h .loop .inv .2)
+    (rw all at (h .loop .inv .2), h .loop .inv .3)
 
 pub rows-of-spec : {M : Type 1} → statement M
 rows-of-spec =
