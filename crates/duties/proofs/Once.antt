@@ -2,9 +2,9 @@
 -- for, and many words are: nothing but the search for a cycle reads it, and its own promise fixes what that finds.) Assumes nothing.
 use mathlib.Core.Path.{_≡_, _∙_, sym}
 use mathlib.Core.List.{List}
-use Prim.Native.Nat.{ℕ, _<_}
+use Prim.Native.Nat.{ℕ}
 use native.Mathlib.Omega.{arith}
-use lib.ListN.{length, getD}
+use lib.ListN.{length}
 use lib.Seq.{ext-getD}
 use Rattle.rules.specs.declared.Table.{Table}
 use Rattle.rules.specs.EventSet.{has}

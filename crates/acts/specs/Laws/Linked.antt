@@ -1,6 +1,6 @@
 -- The links of a table's relations: one relation more, the last of a sort, and what a link says. Assumes nothing.
 use mathlib.Core.Path.{_≡_, refl, _∙_, ap, sym}
-use mathlib.Core.Bool.{Bool, true, false, _||_, cond}
+use mathlib.Core.Bool.{Bool, true, false, cond}
 use mathlib.Core.List.{List}
 use mathlib.Core.Logic.{inl, inr}
 use Prim.Native.Nat.{ℕ, zero, suc, _<_, _≤_, _+_, _*_, _/_, _%_}
@@ -15,10 +15,9 @@ use Rattle.rules.specs.declared.Table.{Table}
 use Rattle.rules.specs.Holds.{relationOf}
 use Rattle.rules.specs.Counting.{some}
 use Rattle.rules.specs.EventSet.{has}
-use Rattle.rules.specs.Laws.Tests.{both, join, and-false, or-false}
-use Rattle.rules.specs.Laws.Counting.{some-none, some-more}
-use Rattle.rules.specs.Shapes.Sets.{withEvent}
-use Rattle.rules.specs.Laws.EventSet.{has-with, has-zero}
+use Rattle.rules.specs.Laws.Tests.{both, join, and-false}
+use Rattle.rules.specs.Laws.Counting.{some-none}
+use Rattle.rules.specs.Laws.EventSet.{has-zero}
 use Rattle.rules.specs.Shapes.Good.{GoodTable}
 use Rattle.acts.specs.Derived.{sortOf, sorted, Derived, chainOf, isChained, ofSort, lastOf, linkOf, Own, Linked, rowsNoted, linksNoted}
 use Rattle.acts.specs.Laws.Derived.{right-small, time-small, sort-small, has-passed, has-taken}

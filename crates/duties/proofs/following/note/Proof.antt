@@ -1,5 +1,5 @@
 -- Noted where it is followed. Assumes nothing.
-use mathlib.Core.Path.{_≡_, _∙_, sym}
+use mathlib.Core.Path.{_∙_, sym}
 use borrow.Author.Needs.{needs}
 use Rattle.duties.specs.Inhibition.{wordsNoted}
 use Rattle.duties.proofs.following.note.Statement.{statement}

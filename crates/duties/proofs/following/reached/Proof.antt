@@ -1,5 +1,4 @@
 -- What was found is closed but for the events still to be opened; each turn opens one. Assumes nothing.
-use mathlib.Core.Path.{_≡_}
 use Prim.Native.Nat.{_<_}
 use native.Mathlib.Omega.{arith}
 use Rattle.rules.specs.Counting.{howMany}

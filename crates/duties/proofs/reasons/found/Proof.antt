@@ -1,7 +1,6 @@
 -- Reason 1, then the others of the closure. Assumes nothing.
-use mathlib.Core.Path.{_≡_, refl, _∙_, ap, sym}
+use mathlib.Core.Path.{_∙_, ap, sym}
 use borrow.Author.Needs.{needs}
-use native.Mathlib.Omega.{arith}
 use Rattle.rules.specs.Closure.{closure}
 use Rattle.rules.specs.Check.{unreportable, verdict}
 use Rattle.rules.specs.Laws.Closure.{closure-fits}
