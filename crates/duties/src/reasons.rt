@@ -23,8 +23,8 @@ ghost use Rattle.acts.specs.Derived.{headOf, Derived};
 ghost use Rattle.duties.specs.Inhibition.{heldIn, Followed};
 ghost use Rattle.acts.specs.Stands.{Stands};
 
-// What the words say of the check: it accepts; a reason lies with an event; or it lies with a relation, which is still to be looked for: of
-// which kinds, from which events and to which.
+// What the words say of the check: it accepts; a reason lies with an event, its place; or it lies with a relation, whose place is still to be
+// looked for: of which kinds it is, from which events and to which.
 pub enum Finding {
     Accepts,
     Event(u8, usize),
@@ -51,7 +51,8 @@ fn matters(k: Relation) -> bool
     true
 }
 
-// The kinds are a set, and no kind that every relation is compared with: of that the compiler makes a loop for each kind.
+// A relation of one of the kinds, from one of the left events to one of the right. The kinds are a set although each reason has one: where a
+// relation's kind is compared with one, the compiler makes a loop for each kind of the function that looks for it.
 fn applies(kinds: u64, lefts: u64, rights: u64, k: Relation) -> bool
     requires { ⌜ (k .kind < 64) × (k .left < 64) × (k .right < 64) ⌝ }
     ensures { λ r. ⌜ r ≡ applies kinds lefts rights k ⌝ }
