@@ -4,7 +4,7 @@
 use crate::decoded::{only, Events, Marking, Relation, Table};
 use crate::flags::Flags;
 use crate::judge::judge;
-use crate::survey::{Row, Survey};
+use crate::survey::{widened, Row, Survey};
 
 #[derive(Clone, Copy, PartialEq, Eq, Debug)]
 pub enum Verdict {
@@ -116,10 +116,20 @@ pub struct Closure {
     pub size: u32,
 }
 
+/// By itself it asks less of the relations than the check does: each event's
+/// inhibitors, and what answers a bounded response.
 pub fn closure(t: &Table, m: &Marking) -> Result<Closure, u8> {
     judge(t, m)?;
-    let s = Survey::of(t);
-    let set = s.widened(Flags::of(m).busy | s.answers, Row::inhibitors);
+    let mut busy = Flags::of(m).busy;
+    let mut inhibitors = [0; 64];
+    for k in t.used() {
+        match k.kind {
+            1 | 5 => inhibitors[usize::from(k.left & 63)] |= only(k.right),
+            2 if k.bounded => busy |= only(k.right),
+            _ => {}
+        }
+    }
+    let set = widened(busy, |event| inhibitors[usize::from(event & 63)]);
     Ok(Closure {
         set,
         size: set.count_ones(),

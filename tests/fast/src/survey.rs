@@ -95,17 +95,23 @@ impl Survey {
         }
     }
 
-    /// A set and, repeatedly, what its events lead to.
+    /// A set and, repeatedly, what the rows of its events lead to.
     #[inline]
     pub fn widened(&self, start: u64, leads: impl Fn(&Row) -> u64) -> u64 {
-        let (mut set, mut unopened) = (start, start);
-        while unopened != 0 {
-            let event = unopened.trailing_zeros() as u8;
-            unopened &= unopened - 1;
-            let more = leads(&self.row(event)) & !set;
-            set |= more;
-            unopened |= more;
-        }
-        set
+        widened(start, |event| leads(&self.row(event)))
     }
+}
+
+/// A set and, repeatedly, what its events lead to.
+#[inline]
+pub(crate) fn widened(start: u64, leads: impl Fn(u8) -> u64) -> u64 {
+    let (mut set, mut unopened) = (start, start);
+    while unopened != 0 {
+        let event = unopened.trailing_zeros() as u8;
+        unopened &= unopened - 1;
+        let more = leads(event) & !set;
+        set |= more;
+        unopened |= more;
+    }
+    set
 }
