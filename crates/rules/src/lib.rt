@@ -46,16 +46,16 @@ pub struct Step {
     pub event: u8,
 }
 
-// The answers. A `number` is 0 for done, else the number given for refusal. A table or a marking stands first, so that the compiler makes it where
-// it is answered: behind a number it takes one more copy on the stack.
+// The answers. A `number` is 0 for done, else the number given for refusal. A table stands before its number, so that the compiler makes it where
+// it is answered: behind the number it takes one more copy on the stack.
 pub struct TableAnswer {
     pub table: Table,
     pub number: u8,
 }
 
 pub struct MarkingAnswer {
-    pub marking: Marking,
     pub number: u8,
+    pub marking: Marking,
 }
 
 pub struct EnabledAnswer {
