@@ -46,11 +46,11 @@
  * Stack. Bytes that a call takes at most on x86-64, its callers and what they lend not counted, nor memcpy and memset of the C library. They
  * are measured, of the compiled library, and not proved: docs/BENCH.md, 'Stack', says how. None takes more than 24 KiB. There is no recursion
  * and no heap.
- *     duty_guarded_tick 22,976    duty_run 22,976         duty_check 19,024         duty_request 17,984
- *     duty_report 17,984          duty_plain_tick 17,984  duty_margin 17,904        duty_closure 16,368
- *     duty_enabled 15,840         duty_hold_up 15,840     duty_due 14,544           duty_remedies 14,312
- *     duty_record 12,704          duty_judge 11,648       duty_relation 8,480       duty_class 6,384
- *     duty_write_table 4,448      duty_carry 3,184        duty_fresh 3,168          duty_size, duty_lowest 8
+ *     duty_run 24,000             duty_guarded_tick 22,976  duty_check 19,024       duty_request 18,000
+ *     duty_report 18,000          duty_plain_tick 18,000    duty_margin 17,904      duty_closure 16,368
+ *     duty_enabled 15,840         duty_hold_up 15,840       duty_due 14,544         duty_remedies 14,312
+ *     duty_record 12,704          duty_judge 11,648         duty_relation 8,480     duty_class 6,384
+ *     duty_write_table 4,448      duty_fresh 4,208          duty_carry 3,184        duty_size, duty_lowest 8
  */
 #ifndef DUTY_H
 #define DUTY_H
