@@ -1,7 +1,8 @@
 /*
  * The shop example P of docs/RULES.md, from C: a leak asks for a flush within three minutes, the flush waits for the isolating valve, and when
  * the duty is due the engine itself isolates, drains and flushes. The table is built from plain numbers, and shown in its bytes. A flush that is
- * only tried, in an offered list, is not counted; one that is done is.
+ * only tried, in an offered list, is not counted; one that is done is. At the end a leak comes again while the flush is still to be done: it is
+ * put off, unless the table is firm.
  */
 #include "duty.h"
 #include "shop.h"
@@ -65,6 +66,13 @@ static void say_count(size_t event)
         printf("  count of %s: %" PRIu32 "\n", names[event], fields[DUTY_EXECUTIONS]);
 }
 
+static void say_deadline(size_t event)
+{
+    uint32_t fields[DUTY_FIELDS];
+    if (duty_record(table, sizeof table, marking, sizeof marking, event, fields, DUTY_FIELDS) == DUTY_DONE)
+        printf("  %s is due in %" PRIu32 "\n", names[event], fields[DUTY_DEADLINE]);
+}
+
 static void guarded_tick(void)
 {
     uint8_t caused[EVENTS] = {0}, reason = 0;
@@ -77,15 +85,34 @@ static void guarded_tick(void)
         printf("  caused %s\n", names[caused[i]]);
 }
 
-int main(void)
+/* The table, and its start: all fresh but for the flush, which is excluded. */
+static void start(const char *what, uint32_t firm)
 {
-    say("table", duty_write_table(EVENTS, classes, sizeof classes, relations, NUMBERS, table, sizeof table));
+    say(what, duty_write_table(EVENTS, firm, classes, sizeof classes, relations, NUMBERS, table, sizeof table));
     say_table();
     say("fresh marking", duty_fresh(EVENTS, marking, sizeof marking));
     marking[DUTY_RECORD_BYTES * FLUSH + INCLUDED_BYTE] = 0;
+}
+
+static void report_leak(void) { say("report leak", duty_report(table, sizeof table, marking, sizeof marking, LEAK)); }
+
+/* A leak, two minutes, and the leak again: when is the flush due? */
+static void repeat_leak(void)
+{
+    report_leak();
+    guarded_tick();
+    guarded_tick();
+    say_deadline(FLUSH);
+    report_leak();
+    say_deadline(FLUSH);
+}
+
+int main(void)
+{
+    start("table", DUTY_NOT_FIRM);
     say("judged", duty_judge(table, sizeof table, marking, sizeof marking));
 
-    say("report leak", duty_report(table, sizeof table, marking, sizeof marking, LEAK));
+    report_leak();
     say("request flush", duty_request(table, sizeof table, marking, sizeof marking, FLUSH));
     say_hold_up(FLUSH);
 
@@ -103,5 +130,9 @@ int main(void)
 
     guarded_tick();
     say_count(FLUSH);
+
+    repeat_leak();
+    start("firm table", DUTY_FIRM);
+    repeat_leak();
     return 0;
 }

@@ -16,14 +16,14 @@
  * the highest bit of the first byte on; each field has its highest bit first, and fields follow each other without a gap. Spare bits are 0.
  *
  *   Table image, 4 + events + 6 * relations bytes:
- *     header, 4 bytes            events 7 bits, relations 9, spare 16
+ *     header, 4 bytes            events 7 bits, relations 9, firm 1, spare 15
  *     for each event, 1 byte     controllable 1, causable 1, spare 6
  *     for each relation, 6 bytes kind 3, left 6, right 6, bounded 1, time 30, spare 2
  *   Marking image, 12 * events bytes:
  *     for each event, 12 bytes   happened 1, age 30, included 1, pending 1, bounded 1, deadline 30, count 32
  *
  *   As bytes, where / cuts off what is below 1 and % is what it leaves:
- *     header    [0] = events * 2 + relations / 256, [1] = relations % 256, [2] = [3] = 0
+ *     header    [0] = events * 2 + relations / 256, [1] = relations % 256, [2] = firm * 128, [3] = 0
  *     class     controllable * 128 + causable * 64
  *     relation  [0] = kind * 32 + left / 2, [1] = left % 2 * 128 + right * 2 + bounded, [2] to [5] = time * 4, high byte first
  *     record    [0] to [3] = happened * 2^31 + age * 2 + included, [4] to [7] = pending * 2^31 + bounded * 2^30 + deadline,
@@ -32,12 +32,15 @@
  *   What fits: 1 to 64 events and 0 to 256 relations; left and right below the events; ages, times and deadlines at most 1,000,000,000.
  *     Condition: bounded 1, any time. Response: bounded 1 and a time of 1 or more, or 0 and 0 for "eventually". Any other kind: 0 and 0.
  *     Age is 0 if not happened, bounded 0 if not pending, deadline 0 if not bounded. Count is 0 if not happened, else 1 or more.
+ *   Firm: a response gives its right event a new deadline, which in a table that is not firm replaces the one that the event has. In a firm
+ *     table the smaller of the two stands, where "eventually" is the largest, so that a repeat never moves a date out. An event that is not
+ *     pending has none, nor has one that has just been executed: it gets the new one in either table.
  *   docs/RULES.md has bit positions, and an example byte by byte.
  *
  * Answers. A function returns 0 for done, or the number of the refusal. The numbers are tried in this order: the table's (1 under 4 bytes;
  * 2 and 3 of the header; 1; 2 of the classes; then for each relation 2, 4, 5, 6), the marking's (1, then 7), then those named with the
- * function, in the order named. Of an image that a function is not handed there is nothing to try: duty_relation and duty_class give the
- * table's numbers and then their own, duty_write_table, duty_fresh and duty_carry their own alone.
+ * function, in the order named. Of an image that a function is not handed there is nothing to try: duty_relation, duty_class and duty_firm give
+ * the table's numbers and then their own, duty_write_table, duty_fresh and duty_carry their own alone.
  *
  * A refusal writes nothing at all; a call that is done writes what is said and no byte past it. The one exception: 12 has a reason and a
  * place, and writes those two. An acting function (request, report, ticks, run) that is done puts the new marking's image where the old one
@@ -46,11 +49,12 @@
  * Stack. Bytes that a call takes at most on x86-64, its callers and what they lend not counted, nor memcpy and memset of the C library. They
  * are measured, of the compiled library, and not proved: docs/BENCH.md, 'Stack', says how. None takes more than 24 KiB. There is no recursion
  * and no heap.
- *     duty_run 24,000             duty_guarded_tick 22,976  duty_check 19,024       duty_request 18,000
- *     duty_report 18,000          duty_plain_tick 18,000    duty_margin 17,904      duty_closure 16,368
- *     duty_enabled 15,840         duty_hold_up 15,840       duty_due 14,544         duty_remedies 14,312
- *     duty_record 12,704          duty_judge 11,648         duty_relation 8,480     duty_class 6,384
- *     duty_write_table 4,448      duty_fresh 4,208          duty_carry 3,184        duty_size, duty_lowest 8
+ *     duty_run 24,064             duty_guarded_tick 23,056  duty_check 19,088       duty_request 18,048
+ *     duty_report 18,048          duty_plain_tick 18,048    duty_margin 17,968      duty_closure 16,432
+ *     duty_enabled 15,888         duty_hold_up 15,888       duty_due 14,608         duty_remedies 14,360
+ *     duty_record 12,752          duty_judge 11,680         duty_relation 8,528     duty_class 6,416
+ *     duty_firm 6,400             duty_write_table 4,464    duty_fresh 4,208        duty_carry 3,184
+ *     duty_size, duty_lowest 8
  */
 #ifndef DUTY_H
 #define DUTY_H
@@ -63,9 +67,9 @@ extern "C" {
 #endif
 
 /* It grows by one wherever a function, a number or an image is changed, so that code written for another one can refuse to compile.
-   3, since 2: a record has 12 bytes in place of 8, the last 4 of them its count, and an old marking image is refused with 1; duty_carry makes a
-   new one of it; 7 is given also for a count that disagrees with happened; duty_record tells 7 fields in place of 6, and asks for 7 places. */
-#define DUTY_VERSION 3
+   4, since 3: the first of the 16 spare bits of a table's header says that the table is firm, and 2 is given for the other 15; duty_write_table
+   is told firm, behind the events; duty_firm tells it. A table image that was read is read as before, and is not firm. */
+#define DUTY_VERSION 4
 
 /* A compiler that knows these words warns where a null pointer, or an overlap with what is written, can be seen. */
 #if defined(__GNUC__)
@@ -80,7 +84,7 @@ extern "C" {
 enum duty_number {
     DUTY_DONE = 0,
     DUTY_LENGTH = 1,        /* an image's length is wrong, or that of a table's numbers, or the steps end in an odd byte */
-    DUTY_SPARE = 2,         /* a spare bit is set */
+    DUTY_SPARE = 2,         /* a spare bit is set, or firm is neither 0 nor 1 */
     DUTY_COUNTS = 3,        /* events 0 or above 64, or relations above 256 */
     DUTY_KIND = 4,          /* a relation's kind is not 1 to 5 */
     DUTY_ENDS = 5,          /* left or right is not below the event count */
@@ -110,6 +114,9 @@ enum duty_class_bit {
     DUTY_CONTROLLABLE = 0x80,   /* it is requested; without this it is reported */
     DUTY_CAUSABLE = 0x40        /* a guarded tick or an offered remedy may execute it */
 };
+
+/* Whether a table is firm. */
+enum { DUTY_NOT_FIRM = 0, DUTY_FIRM = 1 };
 
 /* A relation in plain numbers: which stands at which place, and how many there are. Bounded is 0 or 1. */
 enum duty_place { DUTY_AT_KIND = 0, DUTY_AT_LEFT = 1, DUTY_AT_RIGHT = 2, DUTY_AT_BOUNDED = 3, DUTY_AT_TIME = 4, DUTY_NUMBERS = 5 };
@@ -156,13 +163,13 @@ DUTY_CALL uint8_t duty_fresh(size_t events, uint8_t *DUTY_ALONE marking, size_t 
    carried over in place. */
 DUTY_CALL uint8_t duty_carry(size_t events, const uint8_t *old_marking, size_t old_length, uint8_t *DUTY_ALONE marking, size_t marking_length);
 
-/* A table's image, built from plain numbers: a class byte for each event, and for each relation five numbers, as duty_place has them, one
-   relation behind the other; `relations_length` counts the numbers. Each is judged as it stands: none is cut down to the width of its field.
-   3 where the events are 0 or above 64, or the relations, relations_length / 5, above 256; 1 where the classes are not as many as the events, or
-   the numbers not five to a relation; 2 where another bit of a class byte is set; then for each relation 4, 5, 6, also 6 where bounded is
-   neither 0 nor 1; 14 where the buffer has fewer than 4 + events + 6 * relations bytes. Done, so many are written: the image is exactly so
-   long. */
-DUTY_CALL uint8_t duty_write_table(size_t events, const uint8_t *classes, size_t classes_length, const uint32_t *relations,
+/* A table's image, built from plain numbers: firm, 0 or 1; a class byte for each event; and for each relation five numbers, as duty_place has
+   them, one relation behind the other; `relations_length` counts the numbers. Each is judged as it stands: none is cut down to the width of its
+   field. 2 where firm is neither 0 nor 1; 3 where the events are 0 or above 64, or the relations, relations_length / 5, above 256; 1 where the
+   classes are not as many as the events, or the numbers not five to a relation; 2 where another bit of a class byte is set; then for each
+   relation 4, 5, 6, also 6 where bounded is neither 0 nor 1; 14 where the buffer has fewer than 4 + events + 6 * relations bytes. Done, so many
+   are written: the image is exactly so long. */
+DUTY_CALL uint8_t duty_write_table(size_t events, uint32_t firm, const uint8_t *classes, size_t classes_length, const uint32_t *relations,
                                    size_t relations_length, uint8_t *DUTY_ALONE table, size_t table_length);
 
 /* A relation of a table, in the five numbers that build it. `numbers` has at least 5 places, of which the first 5 are written. 8, then 14
@@ -172,6 +179,9 @@ DUTY_CALL uint8_t duty_relation(const uint8_t *table, size_t table_length, size_
 
 /* The class byte of an event. 8. */
 DUTY_CALL uint8_t duty_class(const uint8_t *table, size_t table_length, size_t event, uint8_t *DUTY_ALONE class_byte);
+
+/* Whether a table is firm, 1 or 0. */
+DUTY_CALL uint8_t duty_firm(const uint8_t *table, size_t table_length, uint32_t *DUTY_ALONE firm);
 
 /* Event sets: event n is the bit worth 2^n. How many events a set holds, and the lowest, 64 for none. These two refuse nothing. */
 DUTY_CALL uint32_t duty_size(uint64_t set);

@@ -3,11 +3,11 @@
  *
  * A question: the call's number 1 byte, the number asked about 8, then four byte strings, each behind its length of 2 bytes: table, marking,
  * a first and a second list. An answer: the number 1 byte, the small out-parameter 1, the large ones 8 and 8, then the marking and the second
- * list as they are afterwards, as long as they came. Numbers are little-endian, and the out-parameters start as bytes 0xEE. The ticks and the
- * size take the first half of a large one; the places of a record's fields, or of a relation's numbers, are the second list, 4 bytes each.
- * A table is written to the second list: asked are the events, the first list is the classes, and in place of the marking come the
- * relations' numbers, 4 bytes each, bytes behind the last whole one not counted. An old marking is carried over from the first list to the
- * second: asked are the events.
+ * list as they are afterwards, as long as they came. Numbers are little-endian, and the out-parameters start as bytes 0xEE. The ticks, the
+ * size and firm take the first half of a large one; the places of a record's fields, or of a relation's numbers, are the second list, 4 bytes
+ * each. A table is written to the second list: asked are the events, firm comes in place of a table, 4 bytes, of which those that are missing
+ * are 0 and more are not looked at, the first list is the classes, and in place of the marking come the relations' numbers, 4 bytes each,
+ * bytes behind the last whole one not counted. An old marking is carried over from the first list to the second: asked are the events.
  */
 #include "duty.h"
 #include <stdio.h>
@@ -36,6 +36,14 @@ static size_t unpack(const struct list *l)
 
 static void pack(struct list *l) { memcpy(l->bytes, numbers, l->length); }
 
+/* a list's first bytes as a number */
+static uint32_t first_number(const struct list *l)
+{
+    uint32_t number = 0;
+    memcpy(&number, l->bytes, l->length < sizeof number ? l->length : sizeof number);
+    return number;
+}
+
 static int take_list(struct list *l)
 {
     uint8_t length[2];
@@ -61,12 +69,13 @@ int main(void)
         uint64_t set;
         size_t large, count, places;
         int32_t ticks;
-        uint32_t size;
+        uint32_t size, firm;
         memset(&set, 0xEE, sizeof set);
         memset(&large, 0xEE, sizeof large);
         memset(&count, 0xEE, sizeof count);
         memset(&ticks, 0xEE, sizeof ticks);
         memset(&size, 0xEE, sizeof size);
+        memset(&firm, 0xEE, sizeof firm);
         switch (call) {
         case 0: number = duty_judge(TABLE, MARKING); break;
         case 1: number = duty_fresh(asked, MARKING); break;
@@ -91,7 +100,7 @@ int main(void)
             break;
         case 17:
             places = unpack(&marking);
-            number = duty_write_table(asked, FIRST, numbers, places, SECOND);
+            number = duty_write_table(asked, first_number(&table), FIRST, numbers, places, SECOND);
             break;
         case 18:
             places = unpack(&second);
@@ -100,6 +109,7 @@ int main(void)
             break;
         case 19: number = duty_class(TABLE, asked, &small); break;
         case 20: number = duty_carry(asked, FIRST, SECOND); break;
+        case 21: number = duty_firm(TABLE, &firm); break;
         default: return 1;
         }
         if (call == 5 || call == 11)
@@ -108,6 +118,8 @@ int main(void)
             memcpy(&large, &ticks, sizeof ticks);
         if (call == 11)
             memcpy(&count, &size, sizeof size);
+        if (call == 21)
+            memcpy(&large, &firm, sizeof firm);
         put(&number, 1);
         put(&small, 1);
         put(&large, 8);

@@ -193,6 +193,7 @@ static void table_refused(const void *table, size_t table_length, const void *ma
     CHECK(relation(i, SIZE_MAX) == number);
     CHECK(duty_class(T(i), 0, SMALL) == number);
     CHECK(duty_class(T(i), SIZE_MAX, SMALL) == number);
+    CHECK(duty_firm(T(i), SIZE) == number);
     i.fields.length = 0;
     CHECK(relation(i, 0) == number);
     open_answers();
@@ -200,14 +201,16 @@ static void table_refused(const void *table, size_t table_length, const void *ma
     all_refused(table, table_length, marking, marking_length, number);
 }
 
-/* The shop's start: fresh, flush excluded. */
-static struct images shop(void)
+/* The shop's start, with its table or one that differs in a bit: fresh, flush excluded. */
+static struct images start(const uint8_t *table)
 {
-    struct images i = take(shop_table, sizeof shop_table, NULL, DUTY_RECORD_BYTES * EVENTS);
+    struct images i = take(table, sizeof shop_table, NULL, DUTY_RECORD_BYTES * EVENTS);
     CHECK(duty_fresh(EVENTS, i.marking.bytes, i.marking.length) == DUTY_DONE);
     i.marking.bytes[DUTY_RECORD_BYTES * FLUSH + INCLUDED_BYTE] = 0;
     return i;
 }
+
+static struct images shop(void) { return start(shop_table); }
 
 /* leak, and three guarded ticks */
 static struct images shop_due(void)
@@ -590,6 +593,7 @@ static void carries_nothing(void)
 /* What a table is built from, and how many bytes there are for it. */
 struct draft {
     size_t events, classes_length, numbers_length, room;
+    uint32_t firm;
     uint8_t classes[DUTY_MOST_EVENTS + 1];
     uint32_t numbers[DUTY_NUMBERS * (DUTY_MOST_RELATIONS + 1)];
 };
@@ -598,7 +602,7 @@ static size_t relations_of(const struct draft *d) { return d->numbers_length / D
 
 static size_t length_of(const struct draft *d) { return DUTY_HEADER_BYTES + d->events + DUTY_RELATION_BYTES * relations_of(d); }
 
-/* So many events and relations, each relation the same, with the room that they take. */
+/* So many events and relations, each relation the same, not firm, with the room that they take. */
 static void drafted(struct draft *d, size_t events, uint8_t class_byte, size_t relations, const uint32_t *numbers)
 {
     memset(d, 0, sizeof *d);
@@ -615,8 +619,8 @@ static uint8_t build(const struct draft *d, struct lent table)
     struct lent classes = lend(d->classes, d->classes_length), numbers = lend(d->numbers, d->numbers_length * sizeof d->numbers[0]);
     shut(classes);
     shut(numbers);
-    uint8_t number = duty_write_table(d->events, classes.bytes, classes.length, (const uint32_t *)(const void *)numbers.bytes, d->numbers_length,
-                                      table.bytes, table.length);
+    uint8_t number = duty_write_table(d->events, d->firm, classes.bytes, classes.length, (const uint32_t *)(const void *)numbers.bytes,
+                                      d->numbers_length, table.bytes, table.length);
     give_back(classes);
     give_back(numbers);
     return number;
@@ -641,9 +645,10 @@ static void builds(const struct draft *d, const uint8_t *image)
     CHECK(build(d, exact) == DUTY_DONE && memcmp(exact.bytes, image, length) == 0 && kept_before(exact));
     shut(exact);
     memcpy(&told, d, sizeof told);
+    told.firm = 9;
     memset(told.classes, 0xA5, told.classes_length);
     memset(told.numbers, 0xA5, told.numbers_length * sizeof told.numbers[0]);
-    uint8_t number = DUTY_DONE;
+    uint8_t number = duty_firm(exact.bytes, exact.length, &told.firm);
     for (size_t e = 0; e < d->events; e++)
         number |= duty_class(exact.bytes, exact.length, e, told.classes + e);
     for (size_t k = 0; k < relations_of(d); k++)
@@ -662,6 +667,7 @@ static void builds_in_order(void)
 {
     static struct draft d;
     drafted(&d, 3, 0, 257, waits);
+    d.firm = 2;
     d.events = 0;
     d.classes_length = 4;
     d.classes[1] = 0x01;
@@ -672,6 +678,12 @@ static void builds_in_order(void)
     d.numbers[DUTY_AT_BOUNDED] = 2;
     d.numbers[DUTY_NUMBERS + DUTY_AT_KIND] = 0;
     d.room = 0;
+    CHECK(unbuilt(&d) == DUTY_SPARE);
+    d.firm = 256;
+    CHECK(unbuilt(&d) == DUTY_SPARE);
+    d.firm = UINT32_MAX;
+    CHECK(unbuilt(&d) == DUTY_SPARE);
+    d.firm = DUTY_FIRM;
     CHECK(unbuilt(&d) == DUTY_COUNTS);
     d.events = 3; /* 257 relations */
     CHECK(unbuilt(&d) == DUTY_COUNTS);
@@ -713,6 +725,8 @@ static void builds_in_order(void)
     CHECK(unbuilt(&d) == DUTY_ROOM);
     d.room = length_of(&d) - 1;
     CHECK(unbuilt(&d) == DUTY_ROOM);
+    builds(&d, (const uint8_t *)"\x06\x02\x80\0\x00\xC0\x40\x61\x02\0\0\0\0\x20\x03\0\0\0\x14");
+    d.firm = DUTY_NOT_FIRM;
     builds(&d, (const uint8_t *)"\x06\x02\0\0\x00\xC0\x40\x61\x02\0\0\0\0\x20\x03\0\0\0\x14");
 }
 
@@ -761,6 +775,12 @@ static void cuts_nothing_down(void)
         d.classes[2] = (uint8_t)(DUTY_CONTROLLABLE | bit);
         CHECK(unbuilt(&d) == DUTY_SPARE);
     }
+    static const uint32_t neither[] = {2, 3, 128, 255, 256, 257, 0x10001, 1u << 31, UINT32_MAX};
+    for (size_t i = 0; i < sizeof neither / sizeof neither[0]; i++) {
+        drafted(&d, 3, 0, 2, waits);
+        d.firm = neither[i];
+        CHECK(unbuilt(&d) == DUTY_SPARE);
+    }
 }
 
 /* The most and the fewest: 64 events and 256 relations, 1 and none. */
@@ -775,6 +795,9 @@ static void builds_at_the_limits(void)
         memcpy(image + 68 + 6 * k, "\x3F\xFF\xEE\x6B\x28\x00", 6);
     drafted(&d, 64, DUTY_CONTROLLABLE, 256, longest);
     builds(&d, image);
+    d.firm = DUTY_FIRM;
+    image[2] = 0x80;
+    builds(&d, image);
     d.room--;
     CHECK(unbuilt(&d) == DUTY_ROOM);
     drafted(&d, 64, DUTY_CONTROLLABLE, 257, longest);
@@ -782,6 +805,8 @@ static void builds_at_the_limits(void)
 
     drafted(&d, 1, DUTY_CAUSABLE, 0, longest);
     builds(&d, (const uint8_t *)"\2\0\0\0\x40");
+    d.firm = DUTY_FIRM;
+    builds(&d, (const uint8_t *)"\2\0\x80\0\x40");
     d.room--;
     CHECK(unbuilt(&d) == DUTY_ROOM);
     d.room = 0;
@@ -812,6 +837,8 @@ static void tells_tables(void)
     CHECK(last[-1] == STANDBY && kept_before(i.fields));
     CHECK(duty_class(T(i), DRAIN, SMALL) == DUTY_DONE && *SMALL == 0xC0 && kept_before(small));
     CHECK(duty_class(T(i), LEAK, SMALL) == DUTY_DONE && *SMALL == 0);
+    *SIZE = 9;
+    CHECK(duty_firm(T(i), SIZE) == DUTY_DONE && *SIZE == DUTY_NOT_FIRM && kept_before(half));
     shut(i.fields);
     shut_answers();
     CHECK(duty_class(T(i), EVENTS, SMALL) == DUTY_NONE_SUCH);
@@ -825,6 +852,136 @@ static void tells_tables(void)
     CHECK(relation(i, 0) == DUTY_ROOM);
     open_answers();
     leave(i);
+}
+
+/* Firm tables */
+
+/* the bytes of a record that say what is to be done, and when; a response's last two numbers that give it */
+struct duty {
+    uint8_t bytes[4];
+    uint32_t bounded, time;
+};
+
+static const struct duty nothing = {{0, 0, 0, 0}, 0, 0}, eventually = {{0x80, 0, 0, 0}, 0, 0}, now = {{0xC0, 0, 0, 0}, 1, 0};
+static const struct duty in_1 = {{0xC0, 0, 0, 1}, 1, 1}, in_3 = {{0xC0, 0, 0, 3}, 1, 3}, in_4 = {{0xC0, 0, 0, 4}, 1, 4};
+
+static int has(struct images i, size_t event, const struct duty *d)
+{
+    return memcmp(i.marking.bytes + DUTY_RECORD_BYTES * event + 4, d->bytes, sizeof d->bytes) == 0;
+}
+
+/* Two events, of which the first has a response to one of them, which already has something to do. */
+static struct images meeting(uint32_t firm, size_t target, const struct duty *had, const struct duty *given)
+{
+    static struct draft d;
+    const uint32_t numbers[DUTY_NUMBERS] = {DUTY_RESPONSE, 0, (uint32_t)target, given->bounded, given->time};
+    drafted(&d, 2, DUTY_CONTROLLABLE | DUTY_CAUSABLE, 1, numbers);
+    d.firm = firm;
+    struct images i = take(NULL, length_of(&d), NULL, 2 * DUTY_RECORD_BYTES);
+    open_up(i.table);
+    CHECK(build(&d, i.table) == DUTY_DONE);
+    shut(i.table);
+    CHECK(duty_fresh(2, i.marking.bytes, i.marking.length) == DUTY_DONE);
+    memcpy(i.marking.bytes + DUTY_RECORD_BYTES * target + 4, had->bytes, sizeof had->bytes);
+    return i;
+}
+
+/* A response meets what its target has: the smaller deadline stands in a firm table, the new one in any other. */
+static void keeps_the_smaller_deadline(void)
+{
+    static const struct {
+        const struct duty *had, *given, *in_a_firm_table;
+    } met[] = {
+        {&nothing, &in_3, &in_3},
+        {&nothing, &eventually, &eventually},
+        {&eventually, &in_3, &in_3},
+        {&eventually, &eventually, &eventually},
+        {&now, &in_3, &now},
+        {&now, &eventually, &now},
+        {&in_1, &in_3, &in_1},
+        {&in_3, &in_3, &in_3},
+        {&in_4, &in_3, &in_3},
+        {&in_3, &eventually, &in_3},
+    };
+    for (size_t k = 0; k < sizeof met / sizeof met[0]; k++) {
+        struct images i = meeting(DUTY_FIRM, 1, met[k].had, met[k].given);
+        CHECK(duty_request(T(i), M(i), 0) == DUTY_DONE && has(i, 1, met[k].in_a_firm_table) && kept_before(i.marking));
+        leave(i);
+        i = meeting(DUTY_NOT_FIRM, 1, met[k].had, met[k].given);
+        CHECK(duty_request(T(i), M(i), 0) == DUTY_DONE && has(i, 1, met[k].given));
+        leave(i);
+        /* a response to itself finds nothing: the event was cleared */
+        for (uint32_t firm = DUTY_NOT_FIRM; firm <= DUTY_FIRM; firm++) {
+            i = meeting(firm, 0, met[k].had, met[k].given);
+            CHECK(duty_request(T(i), M(i), 0) == DUTY_DONE && has(i, 0, met[k].given));
+            leave(i);
+        }
+    }
+}
+
+/* A flush that is due in one minute stays so where a leak comes again, whichever call executes the leak; in a table that is not firm it is put off. */
+static void keeps_a_date(void)
+{
+    static const uint8_t steps[] = {1, LEAK, 3, 0, 3, 0, 1, LEAK};
+    uint8_t table[sizeof shop_table];
+    memcpy(table, shop_table, sizeof table);
+    for (uint32_t firm = DUTY_NOT_FIRM; firm <= DUTY_FIRM; firm++) {
+        const struct duty *behind = firm == DUTY_FIRM ? &in_1 : &in_3;
+        table[2] = (uint8_t)(firm * 128);
+        table[4 + LEAK] = 0;
+        struct images i = start(table);
+        CHECK(duty_firm(T(i), SIZE) == DUTY_DONE && *SIZE == firm);
+        CHECK(duty_report(T(i), M(i), LEAK) == DUTY_DONE && has(i, FLUSH, &in_3));
+        CHECK(guarded(i) == DUTY_DONE && guarded(i) == DUTY_DONE && has(i, FLUSH, &in_1));
+        CHECK(duty_report(T(i), M(i), LEAK) == DUTY_DONE && has(i, FLUSH, behind) && has(i, DRAIN, &eventually));
+        CHECK(guarded(i) == DUTY_DONE && *COUNT == 0 && guarded(i) == DUTY_DONE && *COUNT == (firm == DUTY_FIRM ? 3 : 0));
+        leave(i);
+
+        i = start(table);
+        CHECK(run(i, steps, sizeof steps) == DUTY_DONE && memcmp(i.answers.bytes, "\0\0\0\0", 4) == 0 && has(i, FLUSH, behind));
+        leave(i);
+
+        table[4 + LEAK] = DUTY_CONTROLLABLE;
+        i = start(table);
+        CHECK(duty_request(T(i), M(i), LEAK) == DUTY_DONE && duty_plain_tick(T(i), M(i)) == DUTY_DONE);
+        CHECK(duty_plain_tick(T(i), M(i)) == DUTY_DONE && has(i, FLUSH, &in_1));
+        CHECK(duty_request(T(i), M(i), LEAK) == DUTY_DONE && has(i, FLUSH, behind));
+        leave(i);
+    }
+}
+
+/* A guarded tick and an offered list execute in the same way. The first event alone discharges the second, which is due, by putting it off: not
+   in a firm table. */
+static void keeps_a_date_while_causing(void)
+{
+    static const uint8_t list[] = {0};
+    for (uint32_t firm = DUTY_NOT_FIRM; firm <= DUTY_FIRM; firm++) {
+        struct images i = meeting(firm, 1, &in_3, &in_4);
+        memcpy(i.marking.bytes + 4, now.bytes, sizeof now.bytes);
+        CHECK(guarded(i) == DUTY_DONE && *COUNT == 1 && i.caused.bytes[0] == 0);
+        CHECK(duty_record(T(i), M(i), 1, (uint32_t *)(void *)i.fields.bytes, DUTY_FIELDS) == DUTY_DONE);
+        CHECK(((const uint32_t *)(const void *)i.fields.bytes)[DUTY_DEADLINE] == (firm == DUTY_FIRM ? 2 : 3));
+        leave(i);
+
+        i = meeting(firm, 1, &now, &in_3);
+        shut(i.marking);
+        CHECK(duty_remedies(T(i), M(i), list, 1, list, 1, SMALL, PLACE) == (firm == DUTY_FIRM ? DUTY_NO_REMEDY : DUTY_DONE));
+        leave(i);
+    }
+}
+
+/* Each bit of the header behind firm is refused, in a firm table and in another. */
+static void refuses_the_other_bits(void)
+{
+    uint8_t table[sizeof shop_table], marking[DUTY_RECORD_BYTES * EVENTS] = {0};
+    CHECK(duty_fresh(EVENTS, marking, sizeof marking) == DUTY_DONE);
+    for (unsigned bits = 0x4000; bits > 0; bits /= 2)
+        for (unsigned firm = 0; firm <= 0x8000; firm += 0x8000) {
+            memcpy(table, shop_table, sizeof table);
+            table[2] = (uint8_t)((firm | bits) >> 8);
+            table[3] = (uint8_t)bits;
+            table_refused(table, sizeof table, marking, sizeof marking, DUTY_SPARE);
+        }
 }
 
 /* What is read and what is not, and the first number where several apply. */
@@ -943,6 +1100,10 @@ int main(void)
     cuts_nothing_down();
     builds_at_the_limits();
     tells_tables();
+    keeps_the_smaller_deadline();
+    keeps_a_date();
+    keeps_a_date_while_causing();
+    refuses_the_other_bits();
     keeps_the_limits();
     refuses_disagreeing_counts();
     reads_overlapping();

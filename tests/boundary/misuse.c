@@ -1,4 +1,5 @@
-/* Misuse that a compiler sees by the header's words: with -DNULL_BUFFER, -DOVERLAP or -DIN_PLACE this is refused, with none of them it is not. */
+/* Misuse that a compiler sees by the header's words: with -DNULL_BUFFER, -DOVERLAP, -DIN_PLACE or -DNO_PLACE this is refused, with none of them it
+   is not. */
 #include "duty.h"
 
 uint8_t tick(const uint8_t *table, size_t table_length, uint8_t *marking, size_t marking_length);
@@ -23,5 +24,16 @@ uint8_t carry(size_t events, const uint8_t *old, size_t old_length, uint8_t *mar
     return duty_carry(events, marking, old_length, marking, marking_length) + (old == NULL);
 #else
     return duty_carry(events, old, old_length, marking, marking_length);
+#endif
+}
+
+uint8_t firm(const uint8_t *table, size_t table_length, uint32_t *told);
+
+uint8_t firm(const uint8_t *table, size_t table_length, uint32_t *told)
+{
+#if defined(NO_PLACE)
+    return duty_firm(table, table_length, NULL) + (told == NULL);
+#else
+    return duty_firm(table, table_length, told);
 #endif
 }

@@ -16,7 +16,7 @@ use Rattle.rules.specs.Laws.Turns.{same-word}
 use Rattle.acts.specs.Derived.{Derived, Linked, Unlinked}
 use Rattle.acts.specs.Stands.{Stands}
 
--- `without`, `first`, `with_if`, `bounded_pending`, `included_after`, `pending_after`, `bounded_after`
+-- `without`, `first`, `with_if`, `bounded_pending`, `included_after`, `pending_after`, `kept_dates`, `bounded_after`
 pub members-once : (f : ℕ → Bool) {r s : ℕ} → ((x : ℕ) → has r x ≡ f x) → ((x : ℕ) → has s x ≡ f x) → r ≡ s
 members-once f {r} {s} p q = same-word r s (λ x. p x ∙ sym (q x))
 

@@ -3,14 +3,14 @@
 use mathlib.Core.Path.{_≡_}
 use mathlib.Core.Bool.{Bool, not, _&&_, _||_, cond}
 use mathlib.Core.List.{List}
-use Prim.Native.Nat.{ℕ, _<_, _+_, _/_, _%_}
-use lib.Dec.{eqb, ltb}
+use Prim.Native.Nat.{ℕ, _<_, _+_, _/_, _%_, min}
+use lib.Dec.{ltb}
 use lib.ListN.{length, getD}
 use Rattle.rules.specs.declared.Table.{Table}
 use Rattle.rules.specs.EventSet.{has}
 use Rattle.rules.specs.Holds.{relationOf}
 use Rattle.rules.specs.Counting.{some}
-use Rattle.rules.specs.Effect.{isBounded, ticksOf, response}
+use Rattle.rules.specs.Effect.{Deadline, isBounded, ticksOf, response}
 use Rattle.acts.specs.Derived.{ofSort}
 use Rattle.acts.specs.Stands.{ageAt}
 
@@ -46,15 +46,25 @@ includedAfter rows at included x =
 abbrev pub askedAt : List ℕ → ℕ → ℕ → Bool
 askedAt rows at x = has (getD rows (at + 3) 0) x || has (getD rows (at + 4) 0) x
 
-abbrev pub pendingAfter : List ℕ → ℕ → ℕ → ℕ → ℕ → Bool
-pendingAfter rows at pending e x = has pending x && not (eqb e x) || askedAt rows at x
+-- pending: those that still are, once the event itself is cleared, and the targets
+abbrev pub pendingAfter : List ℕ → ℕ → ℕ → ℕ → Bool
+pendingAfter rows at pending x = has pending x || askedAt rows at x
 
+-- x has a date that no response moves out: it is of a firm table, and still has a deadline
+abbrev pub keptAt : ℕ → ℕ → ℕ → ℕ → Bool
+keptAt firm pending bounded x = has firm x && (has pending x && has bounded x)
+
+-- with a deadline: those that still have one and are no target, those that are given one, and those whose date is kept
 abbrev pub boundedAfter : List ℕ → ℕ → ℕ → ℕ → ℕ → Bool
-boundedAfter rows at bounded e x = has bounded x && not (askedAt rows at x || eqb e x) || has (getD rows (at + 3) 0) x
+boundedAfter rows at bounded kept x = (has bounded x && not (askedAt rows at x) || has (getD rows (at + 3) 0) x) || has kept x
 
--- the deadlines that e's bounded responses give stand in the second column, and what stands elsewhere is as it was
-pub record Responded (t : Table) (e clock : ℕ) (before after : List ℕ) : Type 0 where
+-- The date that stands once a deadline is given besides: the earlier one where the old date counts, else the new one
+abbrev pub sooner : ℕ → Deadline → Bool → ℕ → ℕ
+sooner clock d counts date = cond (isBounded d) (cond counts (min (clock + ticksOf d) date) (clock + ticksOf d)) date
+
+-- the deadlines that e's bounded responses give stand in the second column, the dates of `kept` counting, and what stands elsewhere is as it was
+pub record Responded (t : Table) (e clock kept : ℕ) (before after : List ℕ) : Type 0 where
   pub same-size : length after ≡ length before
   pub elsewhere : (place : ℕ) → ((x : ℕ) → x < 64 → place ≡ 64 + x → ⊥) → getD after place 0 ≡ getD before place 0
   pub deadlines : (x : ℕ) → x < 64
-      → getD after (64 + x) 0 ≡ cond (isBounded (response t e x)) (clock + ticksOf (response t e x)) (getD before (64 + x) 0)
+      → getD after (64 + x) 0 ≡ sooner clock (response t e x) (has kept x) (getD before (64 + x) 0)

@@ -36,9 +36,17 @@ pub record Derived (t : Table) (n : ℕ) (rows : List ℕ) : Type 0 where
   pub size : length rows ≡ 640
   pub row : (e : ℕ) → e < 64 → (s : ℕ) → s < 8 → (x : ℕ) → has (rowOf rows e s) x ≡ some n (sorted t s e x)
 
+-- every event, whether it exists or not
+abbrev pub everyEvent : ℕ
+everyEvent = 18_446_744_073_709_551_615
+
+-- the events whose dates no response moves out: of a firm table every one, else none
+abbrev pub firmSet : Bool → ℕ
+firmSet firm = cond firm everyEvent 0
+
 -- what a table says besides its relations
 abbrev pub headOf : Table → Head
-headOf t = record { controllable = t .controllable; causable = t .causable; events = t .events }
+headOf t = record { controllable = t .controllable; causable = t .causable; events = t .events; firm = firmSet (t .firm) }
 
 -- Two sorts are in chains: bounded responses, and conditions with a time. Where a row has the beginning of the chain of a sort; 10, which
 -- is past the row, for none
@@ -90,7 +98,3 @@ rowsNoted rows at i k =
 
 unfoldable pub linksNoted : List ℕ → List ℕ → ℕ → ℕ → Relation → List ℕ
 linksNoted links rows at i k = cond (isChained k) (set links i (linkOf (getD rows (at + chainOf (sortOf k)) 0 % 512) k)) links
-
--- every event, whether it exists or not
-abbrev pub everyEvent : ℕ
-everyEvent = 18_446_744_073_709_551_615

@@ -45,7 +45,7 @@ fn waits(
     ensures { λ r. ⌜ ((t : Table) (e : ℕ) → GoodTable t → Own t (t .count) e (now (rows .entry)) at (now (links .entry))
         → r ≡ some (t .count) (waitsFor t e clock included (now (columns .entry)))) ⌝ }
 {
-    let mut next = rows[at + derived::WAITS] % 512;
+    let mut next = rows[at + derived::WAITS];
     while next != 0 {
         let w = links[(next - 1) as usize % 256];
         if young(w, clock, included, columns) {

@@ -18,7 +18,7 @@ ghost use Rattle.rules.specs.Enabled.{isEnabled};
 ghost use Rattle.rules.specs.Effect.{effect};
 ghost use Rattle.rules.specs.Shapes.Asked.{askNumber, other};
 ghost use Rattle.rules.specs.Shapes.Good.{GoodTable};
-ghost use Rattle.acts.specs.Derived.{headOf, Own};
+ghost use Rattle.acts.specs.Derived.{firmSet, headOf, Own};
 ghost use Rattle.acts.specs.Stands.{Stands};
 
 // 8, 9.
@@ -45,15 +45,16 @@ fn act(
     sets: &mut [u64; 4],
     columns: &mut Columns,
     e: usize,
+    firm: u64,
 ) -> u8
     requires { ⌜ (e < 64) × (at + 10 ≤ length (now rows)) × (length (now links) ≡ 256) × (clock ≤ 2147483648) ⌝ }
     ensures { λ r. ⌜ ((t : Table) (tail : List Record) (m : Marking) → GoodTable t → Own t (t .count) e (now (rows .entry)) at (now (links .entry))
-        → e < t .events
+        → e < t .events → firm ≡ firmSet (t .firm)
         → Stands (t .events) tail clock (now (sets .entry)) (now (columns .entry)) m
         → (r ≡ (10 if not (isEnabled t m e))) × Stands (t .events) tail clock (now (sets .exit)) (now (columns .exit)) (done r (effect t m e) m)) ⌝ }
 {
     if acting::may_act(rows, at, links, clock, sets, columns, e) {
-        effect::effect(rows, at, links, clock, sets, columns, e);
+        effect::effect(rows, at, links, clock, sets, columns, e, firm);
         return 0;
     }
     10
@@ -80,7 +81,7 @@ pub fn ask(
 {
     let number = class_number(head, event, controllable);
     if number == 0 {
-        return act(rows, at, links, clock, sets, columns, event);
+        return act(rows, at, links, clock, sets, columns, event, head.firm);
     }
     number
 }

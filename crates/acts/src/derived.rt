@@ -9,7 +9,7 @@ ghost use mathlib.Core.Path.{_≡_};
 ghost use Prim.Native.Nat.{_<_, _≤_, _+_};
 ghost use lib.ListN.{length, replicate};
 ghost use Rattle.rules.specs.Shapes.Good.{GoodTable, GoodRelation};
-ghost use Rattle.acts.specs.Derived.{sortOf, chainOf, linkOf, linksNoted, rowsNoted, Own, Derived, Linked, Unlinked};
+ghost use Rattle.acts.specs.Derived.{firmSet, sortOf, chainOf, linkOf, linksNoted, rowsNoted, Own, Derived, Linked, Unlinked};
 
 // How many words a row has.
 pub const WIDTH: usize = 10;
@@ -35,21 +35,25 @@ pub const RESPONSES: usize = 8;
 
 pub const WAITS: usize = 9;
 
-// What a table says besides its relations.
+// What a table says besides its relations. `firm` is a set too: the events whose dates no response moves out, which are all of a firm table, and
+// else none.
 pub struct Head {
     pub controllable: u64,
     pub causable: u64,
     pub events: usize,
+    pub firm: u64,
 }
 
 // Of the table's own parts: who is handed the table copies it.
-pub fn head_of(controllable: u64, causable: u64, events: usize) -> Head
-    ensures { λ r. ⌜ r ≡ record { controllable = controllable; causable = causable; events = events } ⌝ }
+pub fn head_of(controllable: u64, causable: u64, events: usize, firm: bool) -> Head
+    ensures { λ r. ⌜ r ≡ record { controllable = controllable; causable = causable; events = events; firm = firmSet firm } ⌝ }
 {
+    let dates = if firm { 0xffff_ffff_ffff_ffff } else { 0 };
     Head {
         controllable,
         causable,
         events,
+        firm: dates,
     }
 }
 

@@ -17,7 +17,7 @@ ghost use Rattle.rules.specs.declared.Marking.{Marking};
 ghost use Rattle.rules.specs.declared.Table.{Table};
 ghost use Rattle.rules.specs.Guard.{needed, orderOf, takenAll, executedOf, caused as causedBy, guarded};
 ghost use Rattle.rules.specs.Shapes.Good.{GoodTable, Good};
-ghost use Rattle.acts.specs.Derived.{Derived, Linked};
+ghost use Rattle.acts.specs.Derived.{firmSet, Derived, Linked};
 ghost use Rattle.acts.specs.Stands.{Stands};
 ghost use Rattle.duties.specs.AtStart.{AtStart};
 ghost use Rattle.duties.specs.Inhibition.{followedIn, Reached};
@@ -66,18 +66,28 @@ fn take(
     caused: &mut [u8; 64],
     count: usize,
     e: usize,
+    firm: u64,
 ) -> usize
     requires { ⌜ (length (now rows) ≡ 640) × (length (now links) ≡ 256) × (clock ≤ 2147483648) ⌝ }
     requires { ⌜ (count < 64) × (e < 64) ⌝ }
     ensures { λ r. ⌜ (r ≤ count + 1) ⌝ }
     ensures { λ r. ⌜ ((t : Table) (tail : List Record) (m : Marking) → GoodTable t → Derived t (t .count) (now (rows .entry))
-        → Linked t (t .count) (now (rows .entry)) (now (links .entry)) → e < t .events
+        → Linked t (t .count) (now (rows .entry)) (now (links .entry)) → e < t .events → firm ≡ firmSet (t .firm)
         → Stands (t .events) tail clock (now (sets .entry)) (now (columns .entry)) m
         → TakenOne t m e (now (caused .entry)) count (now (caused .exit)) r (Stands (t .events) tail clock (now (sets .exit)) (now (columns .exit)))) ⌝ }
 {
     if event_set::has_event(sets[laid::INCLUDED], e) {
         caused[count] = e as u8;
-        effect::effect(rows, derived::WIDTH * e, links, clock, sets, columns, e);
+        effect::effect(
+            rows,
+            derived::WIDTH * e,
+            links,
+            clock,
+            sets,
+            columns,
+            e,
+            firm,
+        );
         return count + 1;
     }
     count
@@ -93,10 +103,11 @@ fn take_all(
     caused: &mut [u8; 64],
     n: usize,
     needed: u64,
+    firm: u64,
 ) -> usize
     requires { ⌜ (n ≤ 64) × (length (now rows) ≡ 640) × (length (now links) ≡ 256) × (clock ≤ 2147483648) ⌝ }
     ensures { λ r. ⌜ ((t : Table) (tail : List Record) (m : Marking) → GoodTable t → Derived t (t .count) (now (rows .entry))
-        → Linked t (t .count) (now (rows .entry)) (now (links .entry)) → t .events ≡ n
+        → Linked t (t .count) (now (rows .entry)) (now (links .entry)) → t .events ≡ n → firm ≡ firmSet (t .firm)
         → needed < 2 ^ n → length (now (caused .entry)) ≡ 64 → Stands n tail clock (now (sets .entry)) (now (columns .entry)) m
         → Stands n tail clock (now (sets .exit)) (now (columns .exit)) (takenAll t m (orderOf t n needed))
         × AtStart (executedOf t m (orderOf t n needed)) (now (caused .entry)) r (now (caused .exit))) ⌝ }
@@ -111,7 +122,7 @@ fn take_all(
             return count;
         }
         let e = word::lowest(ready);
-        count = take(rows, links, clock, sets, columns, caused, count, e);
+        count = take(rows, links, clock, sets, columns, caused, count, e, firm);
         untaken -= 1 << e;
         ready = (ready - (1 << e)) | ready::freed(rows, waiting[e] & untaken, untaken);
         i += 1;
@@ -129,10 +140,11 @@ pub fn guarded(
     columns: &mut Columns,
     caused: &mut [u8; 64],
     n: usize,
+    firm: u64,
 ) -> usize
     requires { ⌜ (0 < n) × (n ≤ 64) × (length (now rows) ≡ 640) × (length (now links) ≡ 256) × (clock ≤ 2147483648) ⌝ }
     ensures { λ r. ⌜ ((t : Table) (tail : List Record) (m : Marking) → GoodTable t → Derived t (t .count) (now (rows .entry))
-        → Linked t (t .count) (now (rows .entry)) (now (links .entry)) → t .events ≡ n
+        → Linked t (t .count) (now (rows .entry)) (now (links .entry)) → t .events ≡ n → firm ≡ firmSet (t .firm)
         → length (now (caused .entry)) ≡ 64 → Stands n tail clock (now (sets .entry)) (now (columns .entry)) m
         → Stands n tail (clock + 1) (now (sets .exit)) (now (columns .exit)) (guarded t m)
         × AtStart (causedBy t m) (now (caused .entry)) r (now (caused .exit))) ⌝ }
@@ -141,5 +153,5 @@ pub fn guarded(
     if untaken == 0 {
         return 0;
     }
-    take_all(rows, links, clock, sets, columns, caused, n, untaken)
+    take_all(rows, links, clock, sets, columns, caused, n, untaken, firm)
 }

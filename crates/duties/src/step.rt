@@ -96,7 +96,7 @@ fn tick_step(
     }
     if guarding {
         let mut caused = [0; 64];
-        guard::guarded(rows, links, clock, sets, columns, &mut caused, n);
+        guard::guarded(rows, links, clock, sets, columns, &mut caused, n, head.firm);
     }
     Stepped {
         number: 0,

@@ -16,6 +16,8 @@ use Rattle.duty.proofs.duty_relation.Kinds as relation-kinds
 use Rattle.duty.proofs.duty_relation.Reads as relation
 use Rattle.duty.proofs.duty_class.Kinds as class-kinds
 use Rattle.duty.proofs.duty_class.Reads as class
+use Rattle.duty.proofs.duty_firm.Kinds as firm-kinds
+use Rattle.duty.proofs.duty_firm.Reads as firm
 use Rattle.duty.proofs.duty_record.Kinds as record-kinds
 use Rattle.duty.proofs.duty_record.Reads as record-reads
 use Rattle.duty.proofs.duty_size.Kinds as size-kinds
@@ -63,7 +65,7 @@ pub carry-once : Agree 2 carry-kinds.ps carry-kinds.r carry.Learnt
 carry-once κs a one other x y p q = (p .0 ∙ sym (q .0), p .1 ∙ sym (q .1))
 
 pub write-table-once : Agree 3 write-table-kinds.ps write-table-kinds.r write-table.Learnt
-    (λ κs one other x y. (one ≡ other) × (x .1 .1 .1 .0 .now ≡ y .1 .1 .1 .0 .now))
+    (λ κs one other x y. (one ≡ other) × (x .1 .1 .1 .1 .0 .now ≡ y .1 .1 .1 .1 .0 .now))
 write-table-once κs a one other x y p q = (p .0 ∙ sym (q .0), p .1 ∙ sym (q .1))
 
 pub relation-once : Agree 2 relation-kinds.ps relation-kinds.r relation.Learnt
@@ -73,6 +75,10 @@ relation-once κs a one other x y p q = (p .0 ∙ sym (q .0), p .1 ∙ sym (q .1
 pub class-once : Agree 2 class-kinds.ps class-kinds.r class.Learnt
     (λ κs one other x y. (one ≡ other) × (x .1 .1 .0 .now ≡ y .1 .1 .0 .now))
 class-once κs a one other x y p q = let same = p .0 ∙ sym (q .0) in (same, told _ _ same (p .1) (q .1))
+
+pub firm-once : Agree 2 firm-kinds.ps firm-kinds.r firm.Learnt
+    (λ κs one other x y. (one ≡ other) × (x .1 .0 .now ≡ y .1 .0 .now))
+firm-once κs a one other x y p q = let same = p .0 ∙ sym (q .0) in (same, told _ _ same (p .1) (q .1))
 
 pub record-once : Agree 3 record-kinds.ps record-kinds.r record-reads.Learnt
     (λ κs one other x y. (one ≡ other) × (x .1 .1 .1 .0 .now ≡ y .1 .1 .1 .0 .now))

@@ -56,8 +56,8 @@ heldRelation numbers k = record {
   time = heldTime (numberIn numbers k 3) (numberIn numbers k 4);
 }
 
-abbrev pub heldTable : ℕ → ℕ → ℕ → List ℕ → Table
-heldTable events controllable causable numbers =
+abbrev pub heldTable : ℕ → Bool → ℕ → ℕ → List ℕ → Table
+heldTable events firm controllable causable numbers =
     let relations = relationsTold numbers in
     record {
       relations = places relations (heldRelation numbers) ++ replicate (mostRelations - relations) emptyRelation;
@@ -65,4 +65,5 @@ heldTable events controllable causable numbers =
       causable = causable;
       events = events;
       count = relations;
+      firm = firm;
     }

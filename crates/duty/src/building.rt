@@ -106,9 +106,15 @@ fn relation_from(numbers: &[u32], k: usize) -> Relation
 }
 
 // The table, not judged yet.
-pub fn table_from(events: usize, controllable: u64, causable: u64, numbers: &[u32]) -> Table
+pub fn table_from(
+    events: usize,
+    firm: bool,
+    controllable: u64,
+    causable: u64,
+    numbers: &[u32],
+) -> Table
     requires { ⌜ length (now numbers) / 5 ≤ mostRelations ⌝ }
-    ensures { λ r. ⌜ r ≡ heldTable events controllable causable (now (numbers .entry)) ⌝ }
+    ensures { λ r. ⌜ r ≡ heldTable events firm controllable causable (now (numbers .entry)) ⌝ }
 {
     let nothing = Relation {
         kind: 0,
@@ -130,5 +136,6 @@ pub fn table_from(events: usize, controllable: u64, causable: u64, numbers: &[u3
         causable,
         events,
         count,
+        firm,
     }
 }

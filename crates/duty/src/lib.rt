@@ -21,7 +21,7 @@ ghost use lib.ListN.{length, drop};
 ghost use Rattle.rules.specs.Numbers.{_if_, _else_, done};
 ghost use Rattle.rules.specs.EventSet.{sizeOf, lowestOf};
 ghost use Rattle.rules.specs.Fields.{bit};
-ghost use Rattle.rules.specs.Image.{classByte, recordBytes, markingImage, fresh};
+ghost use Rattle.rules.specs.Image.{readTable, classByte, recordBytes, markingImage, fresh};
 ghost use Rattle.rules.specs.Carrying.{carryNumber, carryMarking};
 ghost use Rattle.rules.specs.Enabled.{enabledAnswer};
 ghost use Rattle.rules.specs.Ask.{request, report};
@@ -68,17 +68,21 @@ pub extern "C" fn duty_carry(events: usize, old: &[u8], marking: &mut [u8]) -> u
     image::carry_marking(events, old, marking)
 }
 
-// A table's image, built from plain numbers: a class byte for each event, five numbers for each relation.
+// A table's image, built from plain numbers: firm, 0 or 1, a class byte for each event, five numbers for each relation.
 #[no_mangle]
 pub extern "C" fn duty_write_table(
     events: usize,
+    firm: u32,
     classes: &[u8],
     relations: &[u32],
     table: &mut [u8],
 ) -> u8
-    ensures number { λ r. ⌜ r ≡ buildNumber events (now (classes .entry)) (now (relations .entry)) (length (now (table .entry))) ⌝ }
-    ensures table { λ _. ⌜ now (table .exit) ≡ build events (now (classes .entry)) (now (relations .entry)) (now (table .entry)) ⌝ }
+    ensures number { λ r. ⌜ r ≡ buildNumber events firm (now (classes .entry)) (now (relations .entry)) (length (now (table .entry))) ⌝ }
+    ensures table { λ _. ⌜ now (table .exit) ≡ build events firm (now (classes .entry)) (now (relations .entry)) (now (table .entry)) ⌝ }
 {
+    if 1 < firm {
+        return 2;
+    }
     let number = building::counts_number(events, classes.len(), relations.len());
     if number != 0 {
         return number;
@@ -87,7 +91,13 @@ pub extern "C" fn duty_write_table(
     if sets.number != 0 {
         return sets.number;
     }
-    let t = building::table_from(events, sets.controllable, sets.causable, relations);
+    let t = building::table_from(
+        events,
+        firm == 1,
+        sets.controllable,
+        sets.causable,
+        relations,
+    );
     image::write_table(t, table)
 }
 
@@ -121,6 +131,19 @@ pub extern "C" fn duty_class(table: &[u8], event: usize, byte: &mut u8) -> u8
         *byte = table[4 + event];
     }
     number
+}
+
+// Whether the table is firm: 1, or 0.
+#[no_mangle]
+pub extern "C" fn duty_firm(table: &[u8], firm: &mut u32) -> u8
+    ensures number { λ r. ⌜ r ≡ readTable (now (table .entry)) .number ⌝ }
+    ensures firm { λ r. ⌜ now (firm .exit) ≡ done r (bit (tableOf (now (table .entry)) .firm)) (now (firm .entry)) ⌝ }
+{
+    let read = image::read_table(table);
+    if read.number == 0 {
+        *firm = read.table.firm as u32;
+    }
+    read.number
 }
 
 // The record of an event: its seven fields, in the image's order.

@@ -22,7 +22,7 @@ pub fn asked(t: Table, m: Marking, event: usize, controllable: bool) -> MarkingA
     let mut columns = [0; 192];
     derived::own(t, event, &mut row, &mut links);
     laid::lay(m, &mut sets, &mut columns);
-    let head = derived::head_of(t.controllable, t.causable, t.events);
+    let head = derived::head_of(t.controllable, t.causable, t.events, t.firm);
     let number = ask::ask(
         &row,
         0,

@@ -213,7 +213,7 @@ pub fn check(t: Table, m: Marking) -> CheckAnswer
         let mut columns = [0; 192];
         derived::rows_of(t, &mut rows);
         laid::lay(m, &mut sets, &mut columns);
-        let head = derived::head_of(t.controllable, t.causable, t.events);
+        let head = derived::head_of(t.controllable, t.causable, t.events, t.firm);
         let found = reasons::found(&rows, head, &sets);
         return reasons::verdict(t, found);
     }
@@ -234,7 +234,7 @@ pub fn guarded_tick(t: Table, m: Marking) -> GuardedAnswer
     let mut columns = [0; 192];
     derived::derived(t, &mut rows, &mut links);
     laid::lay(m, &mut sets, &mut columns);
-    let head = derived::head_of(t.controllable, t.causable, t.events);
+    let head = derived::head_of(t.controllable, t.causable, t.events, t.firm);
     let found = reasons::found(&rows, head, &sets);
     let verdict = reasons::verdict(t, found);
     match verdict {
@@ -250,6 +250,7 @@ pub fn guarded_tick(t: Table, m: Marking) -> GuardedAnswer
                 &mut columns,
                 &mut caused,
                 t.events,
+                head.firm,
             );
             let after = laid::give(m, time::tick(0), &sets, &columns);
             GuardedAnswer {
@@ -297,7 +298,7 @@ pub fn remedies<'a>(
     let mut columns = [0; 192];
     derived::derived(t, &mut rows, &mut links);
     laid::lay(m, &mut sets, &mut columns);
-    let head = derived::head_of(t.controllable, t.causable, t.events);
+    let head = derived::head_of(t.controllable, t.causable, t.events, t.firm);
     let mut first_sets = sets;
     let mut first_columns = columns;
     let first = remedy::tried(

@@ -89,7 +89,16 @@ pub fn tried(
         if !goes_on(rows, links, head, sets, columns, e) {
             return i;
         }
-        effect::effect(rows, derived::WIDTH * e, links, 0, sets, columns, e);
+        effect::effect(
+            rows,
+            derived::WIDTH * e,
+            links,
+            0,
+            sets,
+            columns,
+            e,
+            head.firm,
+        );
         i += 1;
     }
     n

@@ -116,7 +116,7 @@ pub fn stepped(t: Table, words: Words, r: Running, kind: u8, event: u8) -> Runni
     let told = step::step(
         &rows,
         &links,
-        derived::head_of(t.controllable, t.causable, t.events),
+        derived::head_of(t.controllable, t.causable, t.events, t.firm),
         0,
         &mut sets,
         &mut columns,
@@ -147,7 +147,7 @@ pub fn played(t: Table, m: Marking, steps: &[u8], answers: &mut [u8]) -> Marking
     let mut columns = [0; 192];
     derived::derived(t, &mut rows, &mut links);
     laid::lay(m, &mut sets, &mut columns);
-    let head = derived::head_of(t.controllable, t.causable, t.events);
+    let head = derived::head_of(t.controllable, t.causable, t.events, t.firm);
     let n = steps.len() / 2;
     let mut clock = 0;
     let mut accepted = false;

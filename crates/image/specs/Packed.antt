@@ -29,9 +29,9 @@ endsWord kind left right bounded = kind ▸ 6 ∶ left ▸ 6 ∶ right ▸ 1 ∶
 abbrev pub classWord : ℕ → ℕ → ℕ → ℕ
 classWord controllable causable e = bit (has controllable e) ▸ 1 ∶ bit (has causable e) ▸ 6 ∶ 0
 
--- events 7, relations 9, spare 16
-abbrev pub headerWord : ℕ → ℕ → ℕ
-headerWord events count = events ▸ 9 ∶ count ▸ 16 ∶ 0
+-- events 7, relations 9, firm 1, spare 15
+abbrev pub headerWord : ℕ → ℕ → Bool → ℕ
+headerWord events count firm = events ▸ 9 ∶ count ▸ 1 ∶ bit firm ▸ 15 ∶ 0
 
 -- before the count: happened 1, age 30, included 1, pending 1, bounded 1, deadline 30
 abbrev pub recordOfWord : ℕ → ℕ → Record

@@ -40,9 +40,9 @@ classesRead image events =
       causable = done number (setOf events (isCausableIn image)) 0;
     }
 
--- so many relations beside two classes, or the first number that one gives
-abbrev pub relationsRead : List ℕ → ℕ → ℕ → ℕ → ℕ → TableAnswer
-relationsRead image events count controllable causable =
+-- so many relations beside two classes and firm, or the first number that one gives
+abbrev pub relationsRead : List ℕ → ℕ → ℕ → ℕ → ℕ → Bool → TableAnswer
+relationsRead image events count controllable causable firm =
     let number = firstOf count (λ k. relationImageNumber image events (relationBit events k)) in
     record {
       number = number;
@@ -53,6 +53,7 @@ relationsRead image events count controllable causable =
             causable = causable;
             events = events;
             count = count;
+            firm = firm;
           })
           emptyTable;
     }

@@ -37,8 +37,8 @@ use Rattle.image.specs.Laws.Carried.{carry-bytes, carry-done, carried-re
 use Rattle.image.specs.Parts.{isControllableIn, isCausableIn}
 use Rattle.image.specs.Laws.TableWords.{class-again}
 use Rattle.image.specs.Laws.TableRound.{image-judged, image-read, table-readable, table-in-done, table-in-unused, table-image-back}
-use Rattle.image.specs.Laws.Built.{told, told-unused, told-done, numbers-again, class-told, told-tells}
-use Rattle.image.specs.Laws.Built.{table-read, relation-number-told, relation-told, class-number-told, tells-number, tells-bytes}
+use Rattle.image.specs.Laws.Built.{told, told-unused, told-done, numbers-again, class-told, firm-again, told-tells}
+use Rattle.image.specs.Laws.Built.{table-read, number-read, relation-number-told, relation-told, class-number-told, tells-number, tells-bytes}
 
 -- A marking that is read is accepted by the judge.
 pub read-marking-accepted : (events : ℕ) (image : List ℕ) → readMarking events image .number ≡ 0
@@ -245,78 +245,92 @@ unfolding writeTable
 table-later-stay t buffer = later-kept (writeTableNumber t (length buffer)) (tableImage t) buffer (table-image-length t)
 
 -- What is built is read as the table that was told.
-pub built-is-read : (events : ℕ) (classes numbers buffer : List ℕ) → buildNumber events classes numbers (length buffer) ≡ 0
-    → readTable (builtImage events classes numbers buffer) ≡ record { number = 0; table = tableFrom events classes numbers }
+pub built-is-read : (events firm : ℕ) (classes numbers buffer : List ℕ) → buildNumber events firm classes numbers (length buffer) ≡ 0
+    → readTable (builtImage events firm classes numbers buffer) ≡ record { number = 0; table = tableFrom events firm classes numbers }
 unfolding build tableFrom
-built-is-read events classes numbers buffer h =
-    let t = tableFrom events classes numbers in
+built-is-read events firm classes numbers buffer h =
+    let t = tableFrom events firm classes numbers in
     let long = tableLength events (relationsTold numbers) in
-    let bytes : builtImage events classes numbers buffer ≡ tableImage t =
+    let bytes : builtImage events firm classes numbers buffer ≡ tableImage t =
     rw h (take-at (tableImage t) (drop long buffer) long (table-image-length t)) in
     ap readTable bytes
-    ∙ image-read t (told-done events classes numbers (told events classes numbers (length buffer) h))
-    ∙ ap (λ (x : Table). record { number = 0; table = x }) (told-unused events classes numbers)
+    ∙ image-read t (told-done events firm classes numbers (told events firm classes numbers (length buffer) h))
+    ∙ ap (λ (x : Table). record { number = 0; table = x }) (told-unused events firm classes numbers)
 
 -- What is built is told back in the same numbers, each relation
-pub built-is-told : (events : ℕ) (classes numbers buffer : List ℕ) → buildNumber events classes numbers (length buffer) ≡ 0
+pub built-is-told : (events firm : ℕ) (classes numbers buffer : List ℕ) → buildNumber events firm classes numbers (length buffer) ≡ 0
     → (k : ℕ) → k < relationsTold numbers → (places : List ℕ) → 5 ≤ length places
-    → (relationToldNumber (builtImage events classes numbers buffer) k (length places) ≡ 0)
-    × (relationTold (builtImage events classes numbers buffer) k places ≡ take 5 (drop (5 * k) numbers) ++ drop 5 places)
+    → (relationToldNumber (builtImage events firm classes numbers buffer) k (length places) ≡ 0)
+    × (relationTold (builtImage events firm classes numbers buffer) k places ≡ take 5 (drop (5 * k) numbers) ++ drop 5 places)
 unfolding tableFrom
-built-is-told events classes numbers buffer h k l places long =
-    let image = builtImage events classes numbers buffer in
-    let t = tableFrom events classes numbers in
-    let read = built-is-read events classes numbers buffer h in (
+built-is-told events firm classes numbers buffer h k l places long =
+    let image = builtImage events firm classes numbers buffer in
+    let t = tableFrom events firm classes numbers in
+    let read = built-is-read events firm classes numbers buffer h in (
       relation-number-told image t read k (length places) l long,
       relation-told image t read k places l long
-          ∙ ap (λ (n : List ℕ). n ++ drop 5 places) (numbers-again events classes numbers (told events classes numbers (length buffer) h) k l),
+          ∙ ap (λ (n : List ℕ). n ++ drop 5 places) (numbers-again events firm classes numbers (told events firm classes numbers (length buffer) h) k l),
     )
 
--- and the class of each event.
-pub built-class-is-told : (events : ℕ) (classes numbers buffer : List ℕ) → ((i : ℕ) → getD classes i 0 < 256)
-    → buildNumber events classes numbers (length buffer) ≡ 0 → (e : ℕ) → e < events
-    → (classToldNumber (builtImage events classes numbers buffer) e ≡ 0)
-    × (classByte (tableOf (builtImage events classes numbers buffer)) e ≡ getD classes e 0)
+-- and the class of each event,
+pub built-class-is-told : (events firm : ℕ) (classes numbers buffer : List ℕ) → ((i : ℕ) → getD classes i 0 < 256)
+    → buildNumber events firm classes numbers (length buffer) ≡ 0 → (e : ℕ) → e < events
+    → (classToldNumber (builtImage events firm classes numbers buffer) e ≡ 0)
+    × (classByte (tableOf (builtImage events firm classes numbers buffer)) e ≡ getD classes e 0)
 unfolding tableFrom
-built-class-is-told events classes numbers buffer bytes h e l =
-    let image = builtImage events classes numbers buffer in
-    let t = tableFrom events classes numbers in
-    let read = built-is-read events classes numbers buffer h in (
+built-class-is-told events firm classes numbers buffer bytes h e l =
+    let image = builtImage events firm classes numbers buffer in
+    let t = tableFrom events firm classes numbers in
+    let read = built-is-read events firm classes numbers buffer h in (
       class-number-told image t read e l,
       ap (λ (x : Table). classByte x e) (table-read image t read)
-          ∙ class-told events classes numbers (told events classes numbers (length buffer) h) e l (bytes e),
+          ∙ class-told events firm classes numbers (told events firm classes numbers (length buffer) h) e l (bytes e),
     )
 
--- So the arrays that a table was built from are such as its image tells.
-pub built-tells : (events : ℕ) (classes numbers buffer : List ℕ) → ((i : ℕ) → getD classes i 0 < 256)
-    → buildNumber events classes numbers (length buffer) ≡ 0 → Tells classes numbers (tableOf (builtImage events classes numbers buffer))
-built-tells events classes numbers buffer bytes h =
-    rw (table-read (builtImage events classes numbers buffer) (tableFrom events classes numbers) (built-is-read events classes numbers buffer h))
-    (told-tells events classes numbers (told events classes numbers (length buffer) h) bytes)
+-- and firm, which is 0 or 1.
+pub built-firm-is-told : (events firm : ℕ) (classes numbers buffer : List ℕ) → buildNumber events firm classes numbers (length buffer) ≡ 0
+    → (readTable (builtImage events firm classes numbers buffer) .number ≡ 0)
+    × (bit (tableOf (builtImage events firm classes numbers buffer) .firm) ≡ firm)
+unfolding tableFrom
+built-firm-is-told events firm classes numbers buffer h =
+    let image = builtImage events firm classes numbers buffer in
+    let t = tableFrom events firm classes numbers in
+    let read = built-is-read events firm classes numbers buffer h in (
+      number-read image t read,
+      ap (λ (x : Table). bit (x .firm)) (table-read image t read)
+          ∙ firm-again events firm classes numbers (told events firm classes numbers (length buffer) h),
+    )
 
--- Building from what is told gives the same bytes, and later bytes stay: arrays that hold each class and each relation as an image tells them.
-pub told-is-built : (image classes numbers buffer : List ℕ) → ((i : ℕ) → getD image i 0 < 256) → readTable image .number ≡ 0
-    → Tells classes numbers (tableOf image) → length image ≤ length buffer
-    → (buildNumber (tableOf image .events) classes numbers (length buffer) ≡ 0)
-    × (build (tableOf image .events) classes numbers buffer ≡ image ++ drop (length image) buffer)
+-- So the numbers that a table was built from are such as its image tells.
+pub built-tells : (events firm : ℕ) (classes numbers buffer : List ℕ) → ((i : ℕ) → getD classes i 0 < 256)
+    → buildNumber events firm classes numbers (length buffer) ≡ 0 → Tells firm classes numbers (tableOf (builtImage events firm classes numbers buffer))
+built-tells events firm classes numbers buffer bytes h =
+    rw (table-read (builtImage events firm classes numbers buffer) (tableFrom events firm classes numbers) (built-is-read events firm classes numbers buffer h))
+    (told-tells events firm classes numbers (told events firm classes numbers (length buffer) h) bytes)
+
+-- Building from what is told gives the same bytes, and later bytes stay: numbers that hold firm, each class and each relation as an image tells them.
+pub told-is-built : (image : List ℕ) (firm : ℕ) (classes numbers buffer : List ℕ) → ((i : ℕ) → getD image i 0 < 256) → readTable image .number ≡ 0
+    → Tells firm classes numbers (tableOf image) → length image ≤ length buffer
+    → (buildNumber (tableOf image .events) firm classes numbers (length buffer) ≡ 0)
+    × (build (tableOf image .events) firm classes numbers buffer ≡ image ++ drop (length image) buffer)
 unfolding tableOf
-told-is-built image classes numbers buffer bytes h tells long =
+told-is-built image firm classes numbers buffer bytes h tells long =
     let t = tableOf image in
     let written = table-read-is-written image buffer bytes h long in (
-      tells-number classes numbers t tells (length buffer) (written .0),
-      tells-bytes classes numbers t tells buffer (written .0) (read-unused-empty image h) ∙ written .1,
+      tells-number firm classes numbers t tells (length buffer) (written .0),
+      tells-bytes firm classes numbers t tells buffer (written .0) (read-unused-empty image h) ∙ written .1,
     )
 
 -- A refusal leaves every byte; a table that is built leaves every later byte.
-pub build-refused-leaves : (events : ℕ) (classes numbers buffer : List ℕ) → (buildNumber events classes numbers (length buffer) ≡ 0 → ⊥)
-    → build events classes numbers buffer ≡ buffer
+pub build-refused-leaves : (events firm : ℕ) (classes numbers buffer : List ℕ) → (buildNumber events firm classes numbers (length buffer) ≡ 0 → ⊥)
+    → build events firm classes numbers buffer ≡ buffer
 unfolding build
-build-refused-leaves events classes numbers buffer h = rw (ne-eqb _ 0 h)
+build-refused-leaves events firm classes numbers buffer h = rw (ne-eqb _ 0 h)
 
-pub build-later-stay : (events : ℕ) (classes numbers buffer : List ℕ)
-    → drop (tableLength events (relationsTold numbers)) (build events classes numbers buffer)
+pub build-later-stay : (events firm : ℕ) (classes numbers buffer : List ℕ)
+    → drop (tableLength events (relationsTold numbers)) (build events firm classes numbers buffer)
     ≡ drop (tableLength events (relationsTold numbers)) buffer
 unfolding build tableFrom
-build-later-stay events classes numbers buffer =
-    later-kept (buildNumber events classes numbers (length buffer)) (tableImage (tableFrom events classes numbers)) buffer
-    (table-image-length (tableFrom events classes numbers))
+build-later-stay events firm classes numbers buffer =
+    later-kept (buildNumber events firm classes numbers (length buffer)) (tableImage (tableFrom events firm classes numbers)) buffer
+    (table-image-length (tableFrom events firm classes numbers))

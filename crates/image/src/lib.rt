@@ -22,7 +22,7 @@ pub fn read_table(image: &[u8]) -> TableAnswer
         return table::refused(1);
     }
     let w = bits::word(image, 0, 4);
-    if w % 65536 != 0 {
+    if w % 32768 != 0 {
         return table::refused(2);
     }
     let events = ((w >> 25) % 128) as usize;
@@ -40,7 +40,15 @@ pub fn read_table(image: &[u8]) -> TableAnswer
     if classes.number != 0 {
         return table::refused(classes.number);
     }
-    table::relations_in(image, events, count, classes.controllable, classes.causable)
+    let firm = (w >> 15) % 2 == 1;
+    table::relations_in(
+        image,
+        events,
+        count,
+        classes.controllable,
+        classes.causable,
+        firm,
+    )
 }
 
 // A table's image into the first bytes of a lent buffer; a refusal leaves every byte.

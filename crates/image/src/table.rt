@@ -43,6 +43,7 @@ pub fn refused(number: u8) -> TableAnswer
             causable: 0,
             events: 0,
             count: 0,
+            firm: false,
         },
     }
 }
@@ -103,9 +104,10 @@ pub fn relations_in(
     count: usize,
     controllable: u64,
     causable: u64,
+    firm: bool,
 ) -> TableAnswer
     requires { ⌜ (events ≤ mostEvents) × (count ≤ mostRelations) × (length (now image) ≡ tableLength events count) ⌝ }
-    ensures { λ r. ⌜ r ≡ relationsRead (now (image .entry)) events count controllable causable ⌝ }
+    ensures { λ r. ⌜ r ≡ relationsRead (now (image .entry)) events count controllable causable firm ⌝ }
 {
     let mut relations = refused(0).table.relations;
     let mut i = 0;
@@ -130,16 +132,17 @@ pub fn relations_in(
             causable,
             events,
             count,
+            firm,
         },
     }
 }
 
 // The number that the header's bytes hold.
-fn header_of(events: usize, count: usize) -> u64
+fn header_of(events: usize, count: usize, firm: bool) -> u64
     requires { ⌜ (events ≤ mostEvents) × (count ≤ mostRelations) ⌝ }
-    ensures { λ w. ⌜ w ≡ headerWord events count ⌝ }
+    ensures { λ w. ⌜ w ≡ headerWord events count firm ⌝ }
 {
-    (events as u64 * 512 + count as u64) * 65536
+    ((events as u64 * 512 + count as u64) * 2 + firm as u64) * 32768
 }
 
 // The number that the byte of an event's classes holds.
@@ -209,7 +212,7 @@ pub fn put_table(t: Table, buffer: &mut [u8])
     requires { ⌜ (tableNumber t ≡ 0) × (tableLength (t .events) (t .count) ≤ length (now buffer)) ⌝ }
     ensures { λ _. ⌜ now (buffer .exit) ≡ tableImage t ++ drop (tableLength (t .events) (t .count)) (now (buffer .entry)) ⌝ }
 {
-    bits::put_word(buffer, 0, 4, header_of(t.events, t.count));
+    bits::put_word(buffer, 0, 4, header_of(t.events, t.count, t.firm));
     put_classes(t.controllable, t.causable, t.events, buffer);
     put_relations(t, buffer);
 }

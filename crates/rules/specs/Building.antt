@@ -1,5 +1,5 @@
--- A table built from plain numbers, and told back in them: for C, where nobody holds a decoded table. A class is the image's byte; a relation is
--- five numbers: kind, left, right, bounded, time.
+-- A table built from plain numbers, and told back in them: for C, where nobody holds a decoded table. Firm is 0 or 1; a class is the image's byte;
+-- a relation is five numbers: kind, left, right, bounded, time.
 use mathlib.Core.Path.{_≡_}
 use mathlib.Core.Bool.{not, _&&_}
 use mathlib.Core.List.{List, [], _∷_, _++_}
@@ -37,29 +37,31 @@ unfoldable pub numbersNumber : ℕ → List ℕ → ℕ → ℕ
 numbersNumber events numbers k = relationNumber events (relationFrom numbers k) else 6 if ltb 1 (numberIn numbers k 3)
 
 -- the table that is told, unused places empty
-unfoldable pub tableFrom : ℕ → List ℕ → List ℕ → Table
-tableFrom events classes numbers =
-    tableWith events (relationsTold numbers) (relationFrom numbers) (λ e. flag classes (8 * e)) (λ e. flag classes (8 * e + 1))
+unfoldable pub tableFrom : ℕ → ℕ → List ℕ → List ℕ → Table
+tableFrom events firm classes numbers =
+    tableWith events (relationsTold numbers) (eqb firm 1) (relationFrom numbers) (λ e. flag classes (8 * e)) (λ e. flag classes (8 * e + 1))
 
--- 3, events and relations; 1, a byte for each event and five numbers for each relation; 2 on the classes in order; each relation in order; 14
-unfoldable pub buildNumber : ℕ → List ℕ → List ℕ → ℕ → ℕ
-buildNumber events classes numbers room =
+-- 2 where firm is neither 0 nor 1; 3, events and relations; 1, a byte for each event and five numbers for each relation; 2 on the classes in
+-- order; each relation in order; 14
+unfoldable pub buildNumber : ℕ → ℕ → List ℕ → List ℕ → ℕ → ℕ
+buildNumber events firm classes numbers room =
     let relations = relationsTold numbers in
-    3 if not (eventsFit events && relationsFit relations)
+    2 if ltb 1 firm
+    else 3 if not (eventsFit events && relationsFit relations)
     else 1 if not (eqb (length classes) events && eqb (length numbers) (5 * relations))
     else firstOf events (λ e. 2 if not (eqb (field classes (8 * e + 2) 6) 0))
     else firstOf relations (numbersNumber events numbers)
     else 14 if ltb room (tableLength events relations)
 
 -- what the lent buffer holds afterwards: the table's image first, and later bytes stay
-unfoldable pub build : ℕ → List ℕ → List ℕ → List ℕ → List ℕ
-build events classes numbers buffer =
-    done (buildNumber events classes numbers (length buffer))
-    (tableImage (tableFrom events classes numbers) ++ drop (tableLength events (relationsTold numbers)) buffer) buffer
+unfoldable pub build : ℕ → ℕ → List ℕ → List ℕ → List ℕ → List ℕ
+build events firm classes numbers buffer =
+    done (buildNumber events firm classes numbers (length buffer))
+    (tableImage (tableFrom events firm classes numbers) ++ drop (tableLength events (relationsTold numbers)) buffer) buffer
 
 -- the image that was built
-abbrev pub builtImage : ℕ → List ℕ → List ℕ → List ℕ → List ℕ
-builtImage events classes numbers buffer = take (tableLength events (relationsTold numbers)) (build events classes numbers buffer)
+abbrev pub builtImage : ℕ → ℕ → List ℕ → List ℕ → List ℕ → List ℕ
+builtImage events firm classes numbers buffer = take (tableLength events (relationsTold numbers)) (build events firm classes numbers buffer)
 
 -- Back. A relation in its five numbers
 abbrev pub numbersFrom : Relation → List ℕ
@@ -79,8 +81,9 @@ relationTold table relation places =
 unfoldable pub classToldNumber : List ℕ → ℕ → ℕ
 classToldNumber table event = readTable table .number else eventNumber (tableOf table) event
 
--- arrays that tell a table whole: a class byte for each event, and five numbers for each relation
-pub record Tells (classes numbers : List ℕ) (t : Table) : Type 0 where
+-- numbers that tell a table whole: firm, a class byte for each event, and five numbers for each relation
+pub record Tells (firm : ℕ) (classes numbers : List ℕ) (t : Table) : Type 0 where
+  pub firm-told : firm ≡ bit (t .firm)
   pub class-each : length classes ≡ t .events
   pub class-told : (e : ℕ) → e < t .events → getD classes e 0 ≡ classByte t e
   pub five-each : length numbers ≡ 5 * t .count

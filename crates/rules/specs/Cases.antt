@@ -7,6 +7,7 @@ use Prim.Native.Nat.{ℕ, _^_, _+_, _-_}
 use lib.Dec.{eqb}
 use lib.IntN.{pos, negsuc}
 use lib.ListN.{length, replicate}
+use Rattle.rules.specs.declared.Relation.{Relation}
 use Rattle.rules.specs.declared.Table.{Table}
 use Rattle.rules.specs.declared.Record.{Record}
 use Rattle.rules.specs.declared.Marking.{Marking}
@@ -30,7 +31,7 @@ use Rattle.rules.specs.Counting.{every, some, lowest, howMany, repeated,
 use Rattle.rules.specs.Numbers.{firstOf}
 use Rattle.rules.specs.EventSet.{has, setOf, sizeOf, lowestOf}
 use Rattle.rules.specs.Holds.{countLimit, emptyMarking, recordOf}
-use Rattle.rules.specs.Fields.{field, bytesOf}
+use Rattle.rules.specs.Fields.{field, bit, bytesOf}
 use Rattle.rules.specs.Pieces.{pieces}
 use Rattle.rules.specs.Judge.{timeFits, relationNumber, tableNumber, stateFits, countFits, recordFits, markingNumber, markingNumberFor, judged}
 use Rattle.rules.specs.Image.{relationAt, relationImageNumber, tableImageNumber, tableIn, readTable, recordAt, markingImageNumber, readMarking}
@@ -91,8 +92,9 @@ pub data Question : Type 0 where
   holdUpTold : ℕ → Question
   checkTold : Question
   recordTold : List ℕ → List ℕ → ℕ → List ℕ → Question
-  buildOf : ℕ → List ℕ → List ℕ → ℕ → Question
-  buildBuffer : ℕ → List ℕ → List ℕ → List ℕ → Question
+  buildOf : ℕ → ℕ → List ℕ → List ℕ → ℕ → Question
+  buildBuffer : ℕ → ℕ → List ℕ → List ℕ → List ℕ → Question
+  firmAsked : List ℕ → Question
   relationAsked : List ℕ → ℕ → List ℕ → Question
   classAsked : List ℕ → ℕ → Question
   carryOf : ℕ → List ℕ → ℕ → Question
@@ -163,8 +165,9 @@ answer t m (marginTold k) = toldBy (toldMargin t m k)
 answer t m (holdUpTold e) = toldHold (toldHoldUp t m e)
 answer t m checkTold = toldVerdict (toldCheck t m)
 answer t m (recordTold table marking e places) = bytes (fieldsTold table marking e places)
-answer t m (buildOf n classes numbers room) = number (buildNumber n classes numbers room)
-answer t m (buildBuffer n classes numbers buffer) = bytes (build n classes numbers buffer)
+answer t m (buildOf n firm classes numbers room) = number (buildNumber n firm classes numbers room)
+answer t m (buildBuffer n firm classes numbers buffer) = bytes (build n firm classes numbers buffer)
+answer t m (firmAsked table) = bytes (readTable table .number ∷ bit (tableOf table .firm) ∷ [])
 answer t m (relationAsked table k places) = bytes (relationTold table k places)
 answer t m (carryOf n old room) = number (carryNumber n old room)
 answer t m (carryBuffer n old buffer) = bytes (carryMarking n old buffer)
@@ -247,8 +250,8 @@ mistakes =
     -- Applying effects before clearing e, which loses a self-response
     ∷ asks selfResponse (endOf selfResponse (shop.marking (shop.idle ∷ [])) (shop.request 0 ∷ [])) (state 0)
     (is (record { age = 0; deadline = 3; happened = true; included = true; pending = true; bounded = true; count = 1 }))
-    -- Keeping the smaller of old and new deadline
-    ∷ after (shop.leak ∷ shop.guarded ∷ shop.guarded ∷ shop.leak ∷ []) (state 1) (is (shop.pendingWithin true 3))
+    -- Keeping the smaller of old and new deadline, where the table is not firm
+    ∷ after shop.leakTwice (state 1) (is (shop.pendingWithin true 3))
     -- Executing a needed event that an earlier one has excluded
     ∷ asks rivals bothDue (causedAlong (shop.guarded ∷ [])) (events (0 ∷ []))
     -- Judging the needed set later than at the start: 2 is executed though 1, which needed it, has been excluded
@@ -296,7 +299,7 @@ turning =
     ∷ after [] (tableWritten 44) (number 14)
     ∷ after [] (tableBuffer (replicate 44 9)) (bytes (replicate 44 9))
     -- class bits of events past the count, and relations past theirs, are not written. Not a class byte more
-    ∷ asks (record { relations = replicate 256 (shop.includes 0 0); controllable = 7; causable = 6; events = 1; count = 0 }) shop.start
+    ∷ asks (record { relations = replicate 256 (shop.includes 0 0); controllable = 7; causable = 6; events = 1; count = 0; firm = false }) shop.start
     (tableBuffer (replicate 6 9)) (bytes (0x02 ∷ 0x00 ∷ 0x00 ∷ 0x00 ∷ 0x80 ∷ 9 ∷ []))
     -- write_marking: a refusal writes nothing. Not a first byte
     ∷ after [] (bufferWritten (9 ∷ 9 ∷ [])) (bytes (9 ∷ 9 ∷ []))
@@ -334,7 +337,7 @@ turning =
     ∷ after [] (enabledNow 5) (enables (record { number = 8; enabled = false }))
     ∷ asks shop.waits5 (shop.marking (shop.idle ∷ shop.excluded ∷ [])) (enabledNow 0) (enables (record { number = 0; enabled = true }))
     -- due: bounded only. Not event 0
-    ∷ asks shop.waits5 (shop.marking (unbounded ∷ shop.pendingWithin true 0 ∷ [])) dueNow (setIs 2)
+    ∷ asks shop.waits5 (shop.marking (shop.eventuallyPending ∷ shop.pendingWithin true 0 ∷ [])) dueNow (setIs 2)
     -- report: of a controllable event 9, and the marking handed in comes back. Not 10; not a changed marking
     ∷ after [] (reported 1) (marks (refusal 9 shop.start))
     ∷ after [] (reported 9) (marks (refusal 8 shop.start))
@@ -371,18 +374,18 @@ turning =
     ∷ after [] (recordTold shop.hexTable shop.hexMarking 0 (replicate 6 9)) (bytes (replicate 6 9))
     ∷ after [] (recordTold shop.hexTable shop.hexMarking 1 (9 ∷ [])) (bytes (9 ∷ []))
     -- a table built from plain numbers: P's bytes, and a later byte stays
-    ∷ after [] (buildBuffer 5 shop.pClasses shop.pNumbers (replicate 46 9)) (bytes (shop.pImage ++ (9 ∷ [])))
+    ∷ after [] (buildBuffer 5 0 shop.pClasses shop.pNumbers (replicate 46 9)) (bytes (shop.pImage ++ (9 ∷ [])))
     -- no number is cut down before it is judged: a kind of 257 is not 1, a left of 256 not 0, a bounded of 2 not 0, a time of 2^30 not 0
-    ∷ after [] (buildOf 1 (0 ∷ []) (257 ∷ 0 ∷ 0 ∷ 1 ∷ 0 ∷ []) 11) (number 4)
-    ∷ after [] (buildOf 1 (0 ∷ []) (3 ∷ 256 ∷ 0 ∷ 0 ∷ 0 ∷ []) 11) (number 5)
-    ∷ after [] (buildOf 1 (0 ∷ []) (3 ∷ 0 ∷ 0 ∷ 2 ∷ 0 ∷ []) 11) (number 6)
-    ∷ after [] (buildOf 1 (0 ∷ []) (1 ∷ 0 ∷ 0 ∷ 1 ∷ 2 ^ 30 ∷ []) 11) (number 6)
+    ∷ after [] (buildOf 1 0 (0 ∷ []) (257 ∷ 0 ∷ 0 ∷ 1 ∷ 0 ∷ []) 11) (number 4)
+    ∷ after [] (buildOf 1 0 (0 ∷ []) (3 ∷ 256 ∷ 0 ∷ 0 ∷ 0 ∷ []) 11) (number 5)
+    ∷ after [] (buildOf 1 0 (0 ∷ []) (3 ∷ 0 ∷ 0 ∷ 2 ∷ 0 ∷ []) 11) (number 6)
+    ∷ after [] (buildOf 1 0 (0 ∷ []) (1 ∷ 0 ∷ 0 ∷ 1 ∷ 2 ^ 30 ∷ []) 11) (number 6)
     -- 3 before 1, 1 before 2, 2 before the relations, these before 14. Not the later one
-    ∷ after [] (buildOf 0 (1 ∷ []) (9 ∷ []) 0) (number 3)
-    ∷ after [] (buildOf 1 (1 ∷ []) (9 ∷ []) 0) (number 1)
-    ∷ after [] (buildOf 1 (1 ∷ []) (9 ∷ 0 ∷ 0 ∷ 0 ∷ 0 ∷ []) 0) (number 2)
-    ∷ after [] (buildOf 1 (0 ∷ []) (9 ∷ 0 ∷ 0 ∷ 0 ∷ 0 ∷ []) 0) (number 4)
-    ∷ after [] (buildOf 1 (0 ∷ []) (3 ∷ 0 ∷ 0 ∷ 0 ∷ 0 ∷ []) 10) (number 14)
+    ∷ after [] (buildOf 0 0 (1 ∷ []) (9 ∷ []) 0) (number 3)
+    ∷ after [] (buildOf 1 0 (1 ∷ []) (9 ∷ []) 0) (number 1)
+    ∷ after [] (buildOf 1 0 (1 ∷ []) (9 ∷ 0 ∷ 0 ∷ 0 ∷ 0 ∷ []) 0) (number 2)
+    ∷ after [] (buildOf 1 0 (0 ∷ []) (9 ∷ 0 ∷ 0 ∷ 0 ∷ 0 ∷ []) 0) (number 4)
+    ∷ after [] (buildOf 1 0 (0 ∷ []) (3 ∷ 0 ∷ 0 ∷ 0 ∷ 0 ∷ []) 10) (number 14)
     -- and told back: relation 0 and the class of flush; 8 before 14, and nothing is written. Not a sixth place
     ∷ after [] (relationAsked shop.pImage 0 (replicate 6 9)) (bytes (2 ∷ 0 ∷ 1 ∷ 1 ∷ 3 ∷ 9 ∷ []))
     ∷ after [] (relationAsked shop.pImage 6 (9 ∷ [])) (bytes (9 ∷ []))
@@ -407,9 +410,6 @@ turning =
     unbound : Record
     unbound = record { age = 0; deadline = 4; happened = false; included = true; pending = true; bounded = false; count = 0 }
 
-    unbounded : Record
-    unbounded = record { age = 0; deadline = 0; happened = false; included = true; pending = true; bounded = false; count = 0 }
-
     countedEarly : Record
     countedEarly = record { age = 0; deadline = 0; happened = false; included = true; pending = false; bounded = false; count = 1 }
 
@@ -419,10 +419,63 @@ turning =
     intoCycle : Table
     intoCycle = shop.table 3 7 7 (shop.condition 0 1 0 ∷ shop.condition 1 2 0 ∷ shop.condition 2 1 0 ∷ [])
 
+-- A firm table beside the same one that is not
+unfoldable pub firm : List Case
+firm =
+    -- a flush due in one minute and a repeated leak: 1. Not 3, as in the one that is not firm (`mistakes`)
+    asks firmP (endOf firmP shop.start shop.leakTwice) (state 1) (is (shop.pendingWithin true 1))
+    -- "eventually" is largest: it meets 3, and 3 is given; 3 meets it, and stays. Not 0 ticks; not "eventually"
+    ∷ meeting firmly (shop.response 0 1 3) shop.eventuallyPending (shop.pendingWithin true 3)
+    ∷ meeting firmly (shop.eventually 0 1) (shop.pendingWithin true 3) (shop.pendingWithin true 3)
+    ∷ meeting loosely (shop.eventually 0 1) (shop.pendingWithin true 3) shop.eventuallyPending
+    ∷ meeting firmly (shop.eventually 0 1) shop.eventuallyPending shop.eventuallyPending
+    -- what is due stays due, also while it is excluded. Not 3; not 3
+    ∷ meeting firmly (shop.response 0 1 3) (shop.pendingWithin true 0) (shop.pendingWithin true 0)
+    ∷ meeting firmly (shop.response 0 1 3) (shop.pendingWithin false 0) (shop.pendingWithin false 0)
+    -- so a leak finds flush due at once that was excluded with its deadline over. Not due in 3
+    ∷ asks firmP (endOf firmP shop.start (shop.leakStandbyFive ++ (shop.leak ∷ []))) (state 1) (is (shop.pendingWithin true 0))
+    -- the smaller that is new; and where nothing is pending the new one. Not the old; not none
+    ∷ meeting firmly (shop.response 0 1 3) (shop.pendingWithin true 4) (shop.pendingWithin true 3)
+    ∷ meeting firmly (shop.response 0 1 3) shop.idle (shop.pendingWithin true 3)
+    -- a response to itself meets the event once it is cleared: the new one. Not 1, the smaller of before
+    ∷ asks selfFirm (endOf selfFirm (shop.marking (shop.pendingWithin true 1 ∷ [])) (shop.request 0 ∷ [])) (state 0)
+    (is (record { age = 0; deadline = 3; happened = true; included = true; pending = true; bounded = true; count = 1 }))
+    -- write_table, and back: the first bit of byte 2. Not the last; not none
+    ∷ asks firmP shop.start (tableBuffer (replicate 45 9)) (bytes (shop.pHeaded 0x80 0x00))
+    ∷ after [] (firmAsked (shop.pHeaded 0x80 0x00)) (bytes (0 ∷ 1 ∷ []))
+    ∷ after [] (firmAsked shop.pImage) (bytes (0 ∷ 0 ∷ []))
+    -- the bits behind it are spare, from the first to the last. Not 0
+    ∷ after [] (firmAsked (shop.pHeaded 0x40 0x00)) (bytes (2 ∷ 0 ∷ []))
+    ∷ after [] (firmAsked (shop.pHeaded 0x80 0x01)) (bytes (2 ∷ 0 ∷ []))
+    -- built from plain numbers: firm; a number that is neither 0 nor 1 is 2, before 3. Not 0; not 3
+    ∷ after [] (buildBuffer 5 1 shop.pClasses shop.pNumbers (replicate 45 9)) (bytes (shop.pHeaded 0x80 0x00))
+    ∷ after [] (buildOf 0 2 (1 ∷ []) (9 ∷ []) 0) (number 2)
+    ∷ after [] (buildOf 1 256 (0 ∷ []) [] 5) (number 2)
+    ∷ []
+  where
+    firmP : Table
+    firmP = shop.firmly shop.P
+
+    firmly : Table → Table
+    firmly = shop.firmly
+
+    loosely : Table → Table
+    loosely t = t
+
+    selfFirm : Table
+    selfFirm = shop.firmly (shop.table 1 1 1 (shop.response 0 0 3 ∷ []))
+
+    -- a response of event 0 meets event 1 as it was, and leaves it so
+    meeting : (Table → Table) → Relation → Record → Record → Case
+    meeting choice k was left = asks (choice t) (endOf (choice t) (shop.marking (shop.idle ∷ was ∷ [])) (shop.request 0 ∷ [])) (state 1) (is left)
+      where
+        t : Table
+        t = shop.table 2 3 3 (k ∷ [])
+
 unfoldable pub cases : List Case
-cases = worked ++ mistakes ++ turning
+cases = worked ++ mistakes ++ turning ++ firm
 
 -- every case is answered as told
 pub told-right : map (λ c. answer (c .table) (c .marking) (c .asked)) cases ≡ map (λ c. c .told) cases
-unfolding cases worked mistakes turning answer causedIn every some lowest howMany repeated placesFrom belowFrom firstOf has setOf sizeOf lowestOf field bytesOf timeFits relationNumber tableNumber stateFits countFits recordFits markingNumber markingNumberFor judged relationAt relationImageNumber tableImageNumber tableIn readTable recordAt markingImageNumber readMarking headerImage classImage relationImage writeTableNumber writeTable recordImage carriedAt carried carryNumber carryMarking pieces stops blocks isEnabled withDeadline excludes includes given smallest executed withInclusion effectAt effect isDue anyDue dueSet later time plainTickNumber plainTick requestNumber reportNumber request marginOf margin holdUpOf holdUp busy follows widened widenedFully closure closureAnswer unreportable uncausable waiting awaited onCycle reopening reviving verdict check holdsBack needed ready orderOf taken takenAll executedOf caused guarded guardedTick inTurn effects discharges shortest remedyNumber remedy stepNumber stepDone stepped endOf answersOf traceNumber stepsIn station writeNumber writeMarking fresh enabledAnswer dueAnswer report run runAnswers runBytes runBytesAnswers toldMargin toldHoldUp reasonOf placeOf toldCheck tableOf markingOf imagesNumber fieldsNumber fieldsTold relationFrom numbersNumber tableFrom buildNumber build relationToldNumber relationTold classToldNumber heardNumber heardBytes heardOutput
+unfolding cases worked mistakes turning firm answer causedIn every some lowest howMany repeated placesFrom belowFrom firstOf has setOf sizeOf lowestOf field bytesOf timeFits relationNumber tableNumber stateFits countFits recordFits markingNumber markingNumberFor judged relationAt relationImageNumber tableImageNumber tableIn readTable recordAt markingImageNumber readMarking headerImage classImage relationImage writeTableNumber writeTable recordImage carriedAt carried carryNumber carryMarking pieces stops blocks isEnabled withDeadline excludes includes given smallest executed withInclusion effectAt effect isDue anyDue dueSet later time plainTickNumber plainTick requestNumber reportNumber request marginOf margin holdUpOf holdUp busy follows widened widenedFully closure closureAnswer unreportable uncausable waiting awaited onCycle reopening reviving verdict check holdsBack needed ready orderOf taken takenAll executedOf caused guarded guardedTick inTurn effects discharges shortest remedyNumber remedy stepNumber stepDone stepped endOf answersOf traceNumber stepsIn station writeNumber writeMarking fresh enabledAnswer dueAnswer report run runAnswers runBytes runBytesAnswers toldMargin toldHoldUp reasonOf placeOf toldCheck tableOf markingOf imagesNumber fieldsNumber fieldsTold relationFrom numbersNumber tableFrom buildNumber build relationToldNumber relationTold classToldNumber heardNumber heardBytes heardOutput
 told-right = refl

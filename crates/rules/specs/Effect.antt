@@ -1,6 +1,6 @@
 -- Effect of e. First e becomes happened with age 0 and not pending, and its count grows by 1, held at its limit. Then, for each target: excluded
 -- if e excludes it, included if e includes it, inclusion winning over exclusion. A target of responses gets the smallest of their deadlines
--- ("eventually" is largest), replacing what it had.
+-- ("eventually" is largest), replacing what it had; in a firm table the smaller of that and what it then has.
 use mathlib.Core.Bool.{Bool, true, false, _&&_, cond}
 use Prim.Native.Nat.{ℕ, zero, suc, _+_, min}
 use lib.Dec.{eqb}
@@ -57,9 +57,9 @@ withDeadline r d = record {
   count = r .count;
 }
 
--- the rule by which a response meets an old deadline: the new one replaces it
-abbrev pub meets : Deadline → Deadline → Deadline
-meets old new = new
+-- how a response meets an old deadline: in a firm table it gives the smaller of the two, else the new one
+abbrev pub meets : Bool → Deadline → Deadline → Deadline
+meets firm old new = cond firm (smaller old new) new
 
 -- relation k leads from e to x
 abbrev pub leads : Relation → ℕ → ℕ → Bool
@@ -110,12 +110,12 @@ withInclusion t e x r = record {
 }
 
 -- then each target's deadline
-abbrev pub responded : Deadline → Record → Record
-responded new r = cond (isPending new) (withDeadline r (meets (deadlineOf r) new)) r
+abbrev pub responded : Bool → Deadline → Record → Record
+responded firm new r = cond (isPending new) (withDeadline r (meets firm (deadlineOf r) new)) r
 
 -- what the effect of e makes of the record of x
 unfoldable pub effectAt : Table → ℕ → ℕ → Record → Record
-effectAt t e x r = responded (response t e x) (withInclusion t e x (cond (eqb x e) (executed r) r))
+effectAt t e x r = responded (t .firm) (response t e x) (withInclusion t e x (cond (eqb x e) (executed r) r))
 
 unfoldable pub effect : Table → Marking → ℕ → Marking
 effect t m e = withRecords m (eachBelow (m .events) (effectAt t e) (m .records))

@@ -68,7 +68,7 @@ pub record EveryCall (P : ℕ → Type 0) : Type 0 where
   pub of-images : (table marking : List ℕ) → P (imagesNumber table marking)
   pub of-guard : (table marking : List ℕ) (room : ℕ) → P (guardNumber table marking room)
   pub of-fields : (table marking : List ℕ) (event room : ℕ) → P (fieldsNumber table marking event room)
-  pub of-build : (events : ℕ) (classes numbers : List ℕ) (room : ℕ) → P (buildNumber events classes numbers room)
+  pub of-build : (events firm : ℕ) (classes numbers : List ℕ) (room : ℕ) → P (buildNumber events firm classes numbers room)
   pub of-relation-told : (table : List ℕ) (relation room : ℕ) → P (relationToldNumber table relation room)
   pub of-class-told : (table : List ℕ) (event : ℕ) → P (classToldNumber table event)
 

@@ -50,7 +50,7 @@ abbrev pub emptyRecord : Record
 emptyRecord = record { age = 0; deadline = 0; happened = false; included = false; pending = false; bounded = false; count = 0 }
 
 abbrev pub emptyTable : Table
-emptyTable = record { relations = replicate mostRelations emptyRelation; controllable = 0; causable = 0; events = 0; count = 0 }
+emptyTable = record { relations = replicate mostRelations emptyRelation; controllable = 0; causable = 0; events = 0; count = 0; firm = false }
 
 abbrev pub emptyMarking : Marking
 emptyMarking = record { records = replicate mostEvents emptyRecord; events = 0 }

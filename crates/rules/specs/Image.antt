@@ -19,15 +19,18 @@ use Rattle.rules.specs.Fields.{field, flag, _▸_, _∶_, bit, bytesOf}
 use Rattle.rules.specs.Pieces.{pieces}
 use Rattle.rules.specs.Judge.{eventsFit, relationsFit, relationNumber, tableNumber, recordNumber, markingNumber}
 
--- Table image. Header, 4 bytes: events 7 bits, relations 9 bits, spare 16 bits
+-- Table image. Header, 4 bytes: events 7 bits, relations 9 bits, firm 1, spare 15
 abbrev pub eventsIn : List ℕ → ℕ
 eventsIn image = field image 0 7
 
 abbrev pub relationsIn : List ℕ → ℕ
 relationsIn image = field image 7 9
 
+abbrev pub firmIn : List ℕ → Bool
+firmIn image = flag image 16
+
 abbrev pub headerSpare : List ℕ → ℕ
-headerSpare image = field image 16 16
+headerSpare image = field image 17 15
 
 -- one byte per event: controllable 1, causable 1, spare 6
 abbrev pub classBit : ℕ → ℕ
@@ -73,27 +76,28 @@ tableImageNumber image =
     else firstOf relations (λ k. relationImageNumber image n (relationBit n k))
 
 -- a table of so many events and relations, each told by its number, its unused places empty
-abbrev pub tableWith : ℕ → ℕ → (ℕ → Relation) → (ℕ → Bool) → (ℕ → Bool) → Table
-tableWith events count relation controllable causable = record {
+abbrev pub tableWith : ℕ → ℕ → Bool → (ℕ → Relation) → (ℕ → Bool) → (ℕ → Bool) → Table
+tableWith events count firm relation controllable causable = record {
   relations = places count relation ++ replicate (mostRelations - count) emptyRelation;
   controllable = setOf events controllable;
   causable = setOf events causable;
   events = events;
   count = count;
+  firm = firm;
 }
 
 -- the table of an image
 unfoldable pub tableIn : List ℕ → Table
 tableIn image =
     let n = eventsIn image in
-    tableWith n (relationsIn image) (λ k. relationAt image (relationBit n k)) (λ e. flag image (classBit e)) (λ e. flag image (classBit e + 1))
+    tableWith n (relationsIn image) (firmIn image) (λ k. relationAt image (relationBit n k)) (λ e. flag image (classBit e)) (λ e. flag image (classBit e + 1))
 
 unfoldable pub readTable : List ℕ → TableAnswer
 readTable image = let number = tableImageNumber image in record { number = number; table = done number (tableIn image) emptyTable }
 
 -- The header, the classes of an event and a relation in their bytes; spare bits are 0
 unfoldable pub headerImage : Table → List ℕ
-headerImage t = bytesOf 4 (t .events ▸ 9 ∶ t .count ▸ 16 ∶ 0)
+headerImage t = bytesOf 4 (t .events ▸ 9 ∶ t .count ▸ 1 ∶ bit (t .firm) ▸ 15 ∶ 0)
 
 abbrev pub classByte : Table → ℕ → ℕ
 classByte t e = bit (isControllable t e) ▸ 1 ∶ bit (isCausable t e) ▸ 6 ∶ 0
@@ -134,7 +138,7 @@ pub record ImageHolds (t : Table) : Type 0 where
 
 -- a table with its unused places empty: relations past the count, and class bits of events past the event count
 unfoldable pub unusedEmpty : Table → Table
-unusedEmpty t = tableWith (t .events) (t .count) (relationOf t) (isControllable t) (isCausable t)
+unusedEmpty t = tableWith (t .events) (t .count) (t .firm) (relationOf t) (isControllable t) (isCausable t)
 
 -- Marking image: 12 bytes per event, no header: happened 1, age 30, included 1, pending 1, bounded 1, deadline 30, count 32
 abbrev pub recordBytes : ℕ

@@ -37,6 +37,18 @@ table n controllable causable relations = record {
   causable = causable;
   events = n;
   count = length relations;
+  firm = false;
+}
+
+-- the same table, firm
+abbrev pub firmly : Table → Table
+firmly t = record {
+  relations = t .relations;
+  controllable = t .controllable;
+  causable = t .causable;
+  events = t .events;
+  count = t .count;
+  firm = true;
 }
 
 abbrev pub marking : List Record → Marking
@@ -52,6 +64,10 @@ excluded = record { age = 0; deadline = 0; happened = false; included = false; p
 -- pending within d ticks, included or not
 abbrev pub pendingWithin : Bool → ℕ → Record
 pendingWithin i d = record { age = 0; deadline = d; happened = false; included = i; pending = true; bounded = true; count = 0 }
+
+-- pending eventually
+abbrev pub eventuallyPending : Record
+eventuallyPending = record { age = 0; deadline = 0; happened = false; included = true; pending = true; bounded = false; count = 0 }
 
 -- happened so long ago, so often, not pending; and once
 abbrev pub happenedTimes : ℕ → ℕ → Record
@@ -96,10 +112,10 @@ pClass = 2 ^ 1 + 2 ^ 2 + 2 ^ 4
 abbrev pub P : Table
 P = table 5 pClass pClass pRelations
 
--- P as an image; and in plain numbers, a class byte for each event and five numbers for each relation
-abbrev pub pImage : List ℕ
-pImage =
-    (0x0A ∷ 0x06 ∷ 0x00 ∷ 0x00 ∷ 0x00 ∷ 0xC0 ∷ 0xC0 ∷ 0x00 ∷ 0xC0 ∷ [])
+-- P as an image: what stands behind the header, the whole with the header's last two bytes, and with those 0
+abbrev pub pRest : List ℕ
+pRest =
+    (0x00 ∷ 0xC0 ∷ 0xC0 ∷ 0x00 ∷ 0xC0 ∷ [])
     ++ (0x40 ∷ 0x03 ∷ 0x00 ∷ 0x00 ∷ 0x00 ∷ 0x0C ∷ [])
     ++ (0x20 ∷ 0x85 ∷ 0x00 ∷ 0x00 ∷ 0x00 ∷ 0x00 ∷ [])
     ++ (0x60 ∷ 0x02 ∷ 0x00 ∷ 0x00 ∷ 0x00 ∷ 0x00 ∷ [])
@@ -107,6 +123,13 @@ pImage =
     ++ (0xA0 ∷ 0x88 ∷ 0x00 ∷ 0x00 ∷ 0x00 ∷ 0x00 ∷ [])
     ++ (0x40 ∷ 0x08 ∷ 0x00 ∷ 0x00 ∷ 0x00 ∷ 0x00 ∷ [])
 
+abbrev pub pHeaded : ℕ → ℕ → List ℕ
+pHeaded third fourth = (0x0A ∷ 0x06 ∷ third ∷ fourth ∷ []) ++ pRest
+
+abbrev pub pImage : List ℕ
+pImage = pHeaded 0x00 0x00
+
+-- in plain numbers: a class byte for each event, and five numbers for each relation
 abbrev pub pClasses : List ℕ
 pClasses = 0x00 ∷ 0xC0 ∷ 0xC0 ∷ 0x00 ∷ 0xC0 ∷ []
 
@@ -145,6 +168,10 @@ start = marking (idle ∷ excluded ∷ idle ∷ idle ∷ idle ∷ [])
 -- a leak, and then three guarded ticks: flush is due
 abbrev pub leakThenThree : List Step
 leakThenThree = leak ∷ guarded ∷ guarded ∷ guarded ∷ []
+
+-- a leak, two guarded ticks, and a leak again while flush has one tick left
+abbrev pub leakTwice : List Step
+leakTwice = leak ∷ guarded ∷ guarded ∷ leak ∷ []
 
 abbrev pub leakStandbyFive : List Step
 leakStandbyFive = leak ∷ guarded ∷ standby ∷ guarded ∷ guarded ∷ guarded ∷ guarded ∷ guarded ∷ []

@@ -30,6 +30,7 @@ pub record SameTable (t u : Table) : Type 0 where
   pub same-relation : (k : ℕ) → k < t .count → relationOf t k ≡ relationOf u k
   pub same-controllable : (e : ℕ) → e < t .events → isControllable t e ≡ isControllable u e
   pub same-causable : (e : ℕ) → e < t .events → isCausable t e ≡ isCausable u e
+  pub same-firm : t .firm ≡ u .firm
 
 -- two markings have the same number of places, which for decoded markings is always 64, and agree on those in use
 pub record SameMarking (m n : Marking) : Type 0 where

@@ -12,13 +12,15 @@ pub struct Relation {
     pub time: u32,
 }
 
-// A table. Event n is in a class if the class's set has the bit worth 2^n; `count` is the number of relations.
+// A table. Event n is in a class if the class's set has the bit worth 2^n; `count` is the number of relations; in a firm table no response moves
+// a deadline out.
 pub struct Table {
     pub relations: [Relation; Table::MOST_RELATIONS],
     pub controllable: u64,
     pub causable: u64,
     pub events: usize,
     pub count: usize,
+    pub firm: bool,
 }
 
 // What a marking holds of one event. `count` is how often it was executed.

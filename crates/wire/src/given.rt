@@ -9,7 +9,7 @@ use rules::Table;
 ghost use Prim.Native.Nat.{_+_, _≤_};
 
 // The bytes of a table, and of a marking.
-pub const TABLE: u16 = 2080;
+pub const TABLE: u16 = 2088;
 
 pub const MARKING: u16 = 1032;
 
@@ -65,6 +65,7 @@ pub fn table(s: &[u8]) -> Table {
         causable: bytes::number_at(s, 2056),
         events: bytes::number_at(s, 2064) as usize,
         count: bytes::number_at(s, 2072) as usize,
+        firm: bytes::bool_at(s, 2080),
     }
 }
 

@@ -20,15 +20,16 @@ fn table_word(t: Table, i: usize) -> u64 {
         256 => t.controllable,
         257 => t.causable,
         258 => t.events as u64,
-        _ => t.count as u64,
+        259 => t.count as u64,
+        _ => t.firm as u64,
     }
 }
 
 pub fn put_table(out: &mut [u8], at: usize, t: Table)
-    requires { ⌜ at + 2080 ≤ 65536 ⌝ }
+    requires { ⌜ at + 2088 ≤ 65536 ⌝ }
 {
     let mut i = 0;
-    while i < 260 {
+    while i < 261 {
         bytes::put_number(out, at + i * 8, 8, table_word(t, i));
         i += 1;
     }

@@ -28,8 +28,8 @@ const fn call(name: &'static str, case: fn(&mut Rng) -> Case) -> Call {
     Call { name, case }
 }
 
-/// By their numbers in a question. Judging and records take the cases of other calls.
-const CALLS: [Call; 21] = [
+/// By their numbers in a question. Judging, records and firm take the cases of other calls.
+const CALLS: [Call; 22] = [
     call("judge", generate::due_case),
     call("fresh", generate::fresh_case),
     call("size", generate::size_case),
@@ -51,6 +51,7 @@ const CALLS: [Call; 21] = [
     call("relation", generate::tell_relation_case),
     call("class", generate::tell_class_case),
     call("carry", generate::carry_marking_case),
+    call("firm", generate::tell_class_case),
 ];
 
 /// The numbers that some call gives; 15 is a step's.
@@ -58,13 +59,23 @@ const NUMBERS: std::ops::RangeInclusive<u8> = 0..=14;
 
 /// The numbers that each of these calls gives. Most are given by other calls too,
 /// so they are looked for call by call.
-const NUMBERS_OF: [(&str, &[u8]); 5] = [
+const NUMBERS_OF: [(&str, &[u8]); 9] = [
     ("record", &[0, 1, 2, 3, 4, 5, 6, 7, 8, 14]),
     ("write_table", &[0, 1, 2, 3, 4, 5, 6, 14]),
+    (WRITE_FIRM, &[0, 1, 2, 3, 4, 5, 6, 14]),
+    (WRITE_NEITHER, &[2]),
     ("relation", &[0, 1, 2, 3, 4, 5, 6, 8, 14]),
     ("class", &[0, 1, 2, 3, 4, 5, 6, 8]),
     ("carry", &[0, 1, 3, 7, 14]),
+    ("firm", &[0, 1, 2, 3, 4, 5, 6]),
+    (TOLD_FIRM, &[0]),
 ];
+
+/// Looked for apart from the others of their call: a table that is to be firm, one
+/// that is to be neither firm nor not, and one that is told to be firm.
+const WRITE_FIRM: &str = "write_table, firm 1";
+const WRITE_NEITHER: &str = "write_table, firm above 1";
+const TOLD_FIRM: &str = "firm, told 1";
 
 /// Which numbers came up, and of which call.
 pub type Seen = BTreeSet<(&'static str, u8)>;
@@ -168,11 +179,13 @@ impl Question {
             }
             Case::BuildTable {
                 events,
+                firm,
                 classes,
                 relations,
                 buffer,
             } => {
                 question.asked = events as u64;
+                question.table = bytes_of(&[firm]);
                 question.marking = bytes_of(&relations);
                 (question.first, question.second) = (classes, buffer);
             }
@@ -250,6 +263,7 @@ impl Question {
                 answer.number = second::tell_class(&self.table, asked, &mut answer.small);
                 answer
             }
+            "firm" => self.tell_firm(),
             "write_table" => self.write_table(),
             "carry" => self.carry(),
             _ => {
@@ -283,12 +297,30 @@ impl Question {
         answer
     }
 
-    /// The relations' numbers stand in the marking's place.
+    /// Firm stands in the table's place, 4 bytes of which those that are missing are
+    /// 0; the relations' numbers stand in the marking's.
     fn write_table(&self) -> Answer {
         let (relations, _) = numbers_in(&self.marking);
         let mut answer = self.untouched(0);
         let (events, table) = (self.asked as usize, &mut answer.second);
-        answer.number = second::build_table(events, &self.first, &relations, table);
+        answer.number = second::build_table(events, self.firm(), &self.first, &relations, table);
+        answer
+    }
+
+    fn firm(&self) -> u32 {
+        let mut bytes = [0; 4];
+        for (byte, given) in bytes.iter_mut().zip(&self.table) {
+            *byte = *given;
+        }
+        u32::from_le_bytes(bytes)
+    }
+
+    /// Firm takes the lower half of the large value.
+    fn tell_firm(&self) -> Answer {
+        let mut answer = self.untouched(0);
+        let mut firm = u32::from_le_bytes([BEFORE; 4]);
+        answer.number = second::tell_firm(&self.table, &mut firm);
+        answer.large[..4].copy_from_slice(&firm.to_le_bytes());
         answer
     }
 
@@ -302,10 +334,14 @@ impl Question {
 
     /// What the number counts for: those of a set are no refusals.
     fn seen(&self, answer: &Answer) -> Option<(&'static str, u8)> {
-        match CALLS[self.call].name {
-            "size" | "lowest" => None,
-            name => Some((name, answer.number)),
-        }
+        let name = match CALLS[self.call].name {
+            "size" | "lowest" => return None,
+            "write_table" if self.firm() == 1 => WRITE_FIRM,
+            "write_table" if self.firm() > 1 => WRITE_NEITHER,
+            "firm" if answer.large[0] == 1 => TOLD_FIRM,
+            name => name,
+        };
+        Some((name, answer.number))
     }
 
     fn of_images(&self, t: &Table, m: &Marking) -> Answer {
@@ -527,7 +563,7 @@ mod tests {
     #[test]
     fn a_number_that_does_not_come_up_is_missed() {
         let mut seen: Seen = NUMBERS.map(|number| ("run", number)).collect();
-        assert_eq!(missing(&seen).len(), 10 + 8 + 9 + 8 + 5);
+        assert_eq!(missing(&seen).len(), 10 + 8 + 8 + 1 + 9 + 8 + 5 + 7 + 1);
         for (name, numbers) in NUMBERS_OF {
             seen.extend(numbers.iter().map(|&number| (name, number)));
         }
@@ -571,7 +607,7 @@ mod tests {
         let mut question = Question {
             call: number_of("write_table"),
             asked: 2,
-            table: Vec::new(),
+            table: bytes_of(&[0]),
             // Two bytes behind the last whole number are no number.
             marking: [&bytes_of(&[2, 0, 0, 1, 1])[..], &[9, 9]].concat(),
             first: vec![0x40, 0x80],
@@ -589,6 +625,51 @@ mod tests {
         }
         question.asked += 1 << 32;
         assert_eq!(question.expected(), question.untouched(3));
+        // Neither firm nor not, before all else.
+        for firm in [2, 256, u32::MAX] {
+            question.table = bytes_of(&[firm]);
+            assert_eq!(question.expected(), question.untouched(2));
+        }
+    }
+
+    #[test]
+    fn firm_stands_in_the_place_of_a_table_that_is_written() {
+        let mut question = Question {
+            call: number_of("write_table"),
+            asked: 1,
+            table: Vec::new(),
+            marking: Vec::new(),
+            first: vec![0x40],
+            second: vec![7; 6],
+        };
+        // Missing bytes are 0, and more than four are not looked at.
+        let given: [(&[u8], u8); 4] = [(&[], 0), (&[1], 1), (&[0; 3], 0), (&[1, 0, 0, 0, 9], 1)];
+        for (bytes, firm) in given {
+            question.table = bytes.to_vec();
+            let mut done = question.untouched(0);
+            done.second = vec![2, 0, 128 * firm, 0, 0x40, 7];
+            assert_eq!(question.expected(), done);
+        }
+    }
+
+    #[test]
+    fn firm_is_told_in_the_large_value() {
+        let mut question = Question {
+            call: number_of("firm"),
+            asked: 9,
+            table: vec![2, 0, 0, 0, 0x40],
+            marking: vec![1, 2, 3],
+            first: vec![4],
+            second: vec![5, 6],
+        };
+        for firm in [0, 1] {
+            question.table[2] = 128 * firm;
+            let mut told = question.untouched(0);
+            told.large[..4].copy_from_slice(&[firm, 0, 0, 0]);
+            assert_eq!(question.expected(), told);
+        }
+        question.table[2] = 0x40;
+        assert_eq!(question.expected(), question.untouched(2));
     }
 
     #[test]

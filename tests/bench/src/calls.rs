@@ -83,7 +83,7 @@ pub const CALLS: [Call; 23] = [
         generate::guarded_tick_case,
         edges::guarded_tick,
     ),
-    call(19, "remedies", generate::remedies_case, edges::none),
+    call(19, "remedies", generate::remedies_case, edges::remedies),
     call(20, "run", generate::run_case, edges::run),
     call(21, "run_bytes", generate::run_bytes_case, edges::run_bytes),
     call(

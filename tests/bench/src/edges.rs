@@ -1,18 +1,19 @@
 //! The cases at the limits, the same in every run: each count, time and length
 //! at its limit and one past it, each spare bit, each field of a relation and of
 //! a record at each of its limits, faults where no call looks, and two faults at
-//! once, whose order decides the number.
+//! once, whose order decides the number; firm tables and tables that are not.
 
 mod carrying;
 mod counted;
+mod firm;
 
 pub use carrying::carry_marking;
-pub use counted::{run, run_bytes};
+pub use firm::remedies;
 
 use crate::full;
 use second::case::{Case, Pair};
 use second::generate::{marking_image, table_image};
-use second::{Marking, Record, Relation, Table, RECORD_BYTES};
+use second::{Marking, Record, Relation, Step, Table, RECORD_BYTES};
 
 const LIMIT: u32 = 1_000_000_000;
 
@@ -77,10 +78,6 @@ const ALL_KINDS: [u8; 12] = [0, 1, 2, 3, 4, 5, 6, 7, 8, 9, 128, 255];
 const KINDS_OF_AN_IMAGE: &[u8] = ALL_KINDS.split_at(8).0;
 
 const SMALL: usize = 3;
-
-pub fn none() -> Vec<Case> {
-    Vec::new()
-}
 
 /// Relations of every kind in turn, all sound.
 fn sound_relation(number: usize, events: usize) -> Relation {
@@ -161,11 +158,18 @@ fn lengths_about(length: usize, unit: usize) -> [usize; 5] {
     ]
 }
 
+/// The header's bits behind firm.
+const HEADER_SPARE: [usize; 15] = [17, 18, 19, 20, 21, 22, 23, 24, 25, 26, 27, 28, 29, 30, 31];
+
 fn spare_bits(events: usize, relations: usize) -> Vec<usize> {
     let classes = (0..events).flat_map(|event| (2..8).map(move |bit| 32 + 8 * event + bit));
     let end = 32 + 8 * events;
     let ends = (0..relations).flat_map(|number| (46..48).map(move |bit| end + 48 * number + bit));
-    (16..32).chain(classes).chain(ends).collect()
+    HEADER_SPARE
+        .into_iter()
+        .chain(classes)
+        .chain(ends)
+        .collect()
 }
 
 /// Every kind, bounded and not, with each of the times.
@@ -294,7 +298,7 @@ type ImageFault = fn(&mut Vec<u8>);
 const IMAGE_FAULTS: [ImageFault; 13] = [
     |image| image.truncate(3),
     |image| image.truncate(4),
-    |image| image[2] |= 0x80,
+    |image| image[2] |= 0x40,
     |image| image[3] |= 0x01,
     |image| image[0] &= 0x01,
     |image| image[0] = 0x83,
@@ -386,6 +390,7 @@ pub fn read_table() -> Vec<Case> {
     images.extend(images_by_length());
     images.extend(images_by_bit());
     images.extend(faulty_images());
+    images.extend(firm::images());
     images
         .into_iter()
         .map(|bytes| Case::ReadTable { bytes })
@@ -522,6 +527,7 @@ pub fn write_table() -> Vec<Case> {
     }
     let mut tables = faulty_tables();
     tables.extend(tables_with_unused_full());
+    tables.extend(firm::tables());
     for table in &tables {
         for length in lengths_about(image_length(table), 6) {
             cases.push(write_table_of(table, length));
@@ -555,6 +561,7 @@ pub fn judge_table() -> Vec<Case> {
     let mut tables = tables_with_last(relations_by_kind(&ALL_KINDS, &TIMES));
     tables.extend(tables_by_ends(&[62, 63, 64, 65, 127, 128, 200, 255]));
     tables.extend(faulty_tables());
+    tables.extend(firm::tables());
     for events in EVENT_COUNTS {
         tables.extend(RELATION_COUNTS.map(|count| table(events, count)));
     }
@@ -633,12 +640,14 @@ pub fn enabled() -> Vec<Case> {
 pub fn request() -> Vec<Case> {
     let mut cases = full_cases(&EVENTS_ASKED, |pair, event| Case::Request { pair, event });
     cases.extend(counted::requests());
+    cases.extend(firm::requests());
     cases
 }
 
 pub fn report() -> Vec<Case> {
     let mut cases = full_cases(&EVENTS_ASKED, |pair, event| Case::Report { pair, event });
     cases.extend(counted::reports());
+    cases.extend(firm::reports());
     cases
 }
 
@@ -691,7 +700,37 @@ pub fn check() -> Vec<Case> {
 pub fn guarded_tick() -> Vec<Case> {
     let mut cases = full_cases(&[0], |pair, _| Case::GuardedTick { pair });
     cases.extend(counted::guarded_ticks());
+    cases.extend(firm::guarded_ticks());
     cases
+}
+
+/// Each trace has a byte more than its answers need.
+fn traces() -> impl Iterator<Item = (Pair, Vec<Step>, Vec<u8>)> {
+    let all = counted::traces().chain(firm::traces());
+    all.map(|(pair, steps)| {
+        let answers = vec![0xA5; steps.len() + 1];
+        (pair, steps, answers)
+    })
+}
+
+pub fn run() -> Vec<Case> {
+    traces()
+        .map(|(pair, steps, answers)| Case::Run {
+            pair,
+            steps,
+            answers,
+        })
+        .collect()
+}
+
+pub fn run_bytes() -> Vec<Case> {
+    traces()
+        .map(|(pair, steps, answers)| Case::RunBytes {
+            pair,
+            steps: steps.iter().flat_map(|s| [s.kind, s.event]).collect(),
+            answers,
+        })
+        .collect()
 }
 
 #[cfg(test)]

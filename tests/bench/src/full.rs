@@ -68,6 +68,14 @@ pub fn chain() -> Pair {
     pair(false, &[0])
 }
 
+/// Every event is due, in a firm table: of those to which another responds first, no
+/// deadline is put off.
+pub fn firm() -> Pair {
+    let mut pair = all_due();
+    pair.table.firm = true;
+    pair
+}
+
 /// Refused by the first test that there is.
 pub fn refused() -> Pair {
     let mut pair = chain();
@@ -85,7 +93,7 @@ pub fn counted(mut pair: Pair, count: u32) -> Pair {
 }
 
 pub fn pairs() -> Vec<Pair> {
-    vec![quiet(), one_due(), all_due(), chain(), refused()]
+    vec![quiet(), one_due(), all_due(), chain(), firm(), refused()]
 }
 
 #[cfg(test)]
@@ -103,6 +111,9 @@ mod tests {
     #[test]
     fn each_pair_causes_what_it_says() {
         let counts: Vec<Option<u8>> = pairs().iter().map(caused).collect();
-        assert_eq!(counts, [Some(0), Some(1), Some(64), Some(64), None]);
+        assert_eq!(
+            counts,
+            [Some(0), Some(1), Some(64), Some(64), Some(64), None]
+        );
     }
 }

@@ -1,6 +1,7 @@
 //! Whole inputs of the station program.
 
-use second::case::Case;
+use crate::shop;
+use second::case::{Case, Pair};
 use second::generate::{marking_image, old_marking_image, station_case, table_image};
 use second::rng::Rng;
 use second::{fresh, station, Marking, Record, Relation, Table, RECORD_BYTES};
@@ -111,6 +112,21 @@ fn counted_inputs() -> Vec<Vec<u8>> {
     inputs
 }
 
+/// The shop, its table firm and not, where a leak comes again; and a minute more.
+fn firm_inputs() -> Vec<Vec<u8>> {
+    let mut inputs = Vec::new();
+    for firm in [false, true] {
+        for steps in [shop::repeated(), shop::brought_back()] {
+            let Pair { table, marking } = shop::pair(firm);
+            let steps = steps.iter().flat_map(|step| [step.kind, step.event]);
+            let mut input = [table_image(&table), marking_image(&marking)].concat();
+            input.extend(steps.chain([3, 0]));
+            inputs.push(input);
+        }
+    }
+    inputs
+}
+
 /// The images and steps of so many bytes: reports, and a tick now and then.
 fn with_steps(images: &[u8], bytes: usize) -> Vec<u8> {
     let steps = (0..bytes).map(|place| match place / 2 % 5 {
@@ -124,6 +140,7 @@ fn with_steps(images: &[u8], bytes: usize) -> Vec<u8> {
 pub fn edges() -> Vec<Vec<u8>> {
     let mut inputs = one_of_each();
     inputs.extend(counted_inputs());
+    inputs.extend(firm_inputs());
     for (events, count) in [(1, 0), (5, 20), (64, 256)] {
         let images = images(events, count);
         // Every end within the header, and around the ends of table and marking.
@@ -168,6 +185,19 @@ mod tests {
         assert_eq!(ends[6], [1]);
         assert_eq!(ends[7][0], 0);
         assert_eq!(ends[7][9..], [1, 0, 1, 1]);
+    }
+
+    #[test]
+    fn a_second_leak_puts_the_flush_off_only_where_the_table_is_not_firm() {
+        let ends: Vec<Vec<u8>> = firm_inputs().iter().map(|i| station(i)).collect();
+        // The flush's record behind the answers, which are all 0, and the leak's.
+        let flush = |end: &Vec<u8>| end[end.len() - 4 * RECORD_BYTES..][..8].to_vec();
+        let waiting = |deadline: u8| vec![0, 0, 0, 1, 0xC0, 0, 0, deadline];
+        assert_eq!(flush(&ends[0]), waiting(2));
+        assert_eq!(flush(&ends[1]), waiting(2));
+        assert_eq!(flush(&ends[2]), waiting(0));
+        // It was due at once, and the minute has caused it.
+        assert_eq!(flush(&ends[3]), [0x80, 0, 0, 3, 0, 0, 0, 0]);
     }
 
     #[test]

@@ -11,5 +11,7 @@ pub mod full;
 pub mod inputs;
 pub mod program;
 pub mod shape;
+pub mod shop;
 pub mod station;
+pub mod turned;
 pub mod wire;

@@ -2,6 +2,7 @@
 //! tick has much to do. Nothing is compared here.
 
 mod counted;
+mod firm;
 
 use second::case::{Answer, Case, Pair};
 use second::{
@@ -37,6 +38,22 @@ fn past_an_image(pair: &Pair) -> bool {
 fn relations(pair: &Pair) -> impl Iterator<Item = (u8, usize, usize)> + '_ {
     let used = pair.table.relations.iter().take(pair.table.count);
     used.map(|k| (k.kind, usize::from(k.left), usize::from(k.right)))
+}
+
+/// The events that a call has executed, in order.
+fn executed(case: &Case, answer: &Answer) -> Vec<usize> {
+    match (case, answer) {
+        (Case::Request { event, .. } | Case::Report { event, .. }, Answer::Marking(done))
+            if done.number == 0 =>
+        {
+            vec![*event]
+        }
+        (_, Answer::Guarded(done)) => {
+            let caused = &done.caused[..usize::from(done.count)];
+            caused.iter().map(|&event| event.into()).collect()
+        }
+        _ => Vec::new(),
+    }
 }
 
 /// Whether the second of two events keeps the first from happening, if the
@@ -175,13 +192,16 @@ fn of_written(table: &Table, buffer: &[u8]) -> Vec<&'static str> {
         ),
     ];
     let there = shapes.into_iter().filter(|shape| shape.1);
-    there.map(|shape| shape.0).collect()
+    let mut shapes = firm::of_table(table);
+    shapes.extend(there.map(|shape| shape.0));
+    shapes
 }
 
 /// The words for what is in the case and its answer.
 pub fn of(case: &Case, answer: &Answer) -> Vec<&'static str> {
     match case {
         Case::WriteTable { table, buffer } => return of_written(table, buffer),
+        Case::JudgeTable { table } => return firm::of_table(table),
         Case::CarryMarking {
             events,
             old,
@@ -194,6 +214,9 @@ pub fn of(case: &Case, answer: &Answer) -> Vec<&'static str> {
         }
         _ => {}
     }
+    if let Answer::ReadTable(read) = answer {
+        return firm::of_table(&read.table);
+    }
     let Some(pair) = case.pair() else {
         return Vec::new();
     };
@@ -203,6 +226,8 @@ pub fn of(case: &Case, answer: &Answer) -> Vec<&'static str> {
         (_, Answer::HoldUp(hold_up)) => vec![of_hold_up(hold_up)],
         _ => Vec::new(),
     };
+    shapes.extend(firm::of_table(&pair.table));
+    shapes.extend(firm::of_executed(case, answer, pair));
     shapes.extend(counted::of_executed(case, answer, pair));
     if answer.number() == 7 {
         shapes.extend(counted::of_refused(&pair.marking));

@@ -30,6 +30,7 @@ fn put_table(out: &mut Vec<u8>, table: &Table) {
     out.extend(table.causable.to_le_bytes());
     put_number(out, table.events);
     put_number(out, table.count);
+    put_number(out, usize::from(table.firm));
 }
 
 fn put_record(out: &mut Vec<u8>, record: &Record) {
@@ -263,10 +264,22 @@ mod tests {
     fn a_table_and_a_marking_have_their_sizes() {
         let mut table = Vec::new();
         put_table(&mut table, &Table::EMPTY);
-        assert_eq!(table.len(), 2080);
+        assert_eq!(table.len(), 2088);
         let mut marking = Vec::new();
         put_marking(&mut marking, &Marking::EMPTY);
         assert_eq!(marking.len(), 1032);
+    }
+
+    #[test]
+    fn a_table_ends_with_firm() {
+        let mut table = Table::EMPTY;
+        (table.count, table.firm) = (0x0102, true);
+        let mut out = Vec::new();
+        put_table(&mut out, &table);
+        assert_eq!(
+            out[2072..],
+            [2, 1, 0, 0, 0, 0, 0, 0, 1, 0, 0, 0, 0, 0, 0, 0]
+        );
     }
 
     #[test]

@@ -38,7 +38,7 @@ fn ask(t: &Table, m: &mut Marking, event: usize, controllable: bool) -> u8 {
     let Some(leads) = unless_stopped(own.clone(), m) else {
         return 10;
     };
-    execute(m, event, leads, own);
+    execute(m, event, leads, own, t.firm);
     0
 }
 

@@ -31,6 +31,8 @@ pub struct Table {
     pub causable: u64,
     pub events: usize,
     pub count: usize,
+    /// No response moves a deadline out.
+    pub firm: bool,
 }
 
 impl Table {
@@ -40,6 +42,7 @@ impl Table {
         causable: 0,
         events: 0,
         count: 0,
+        firm: false,
     };
 
     /// The relations in use, of a table that is judged.

@@ -3,14 +3,15 @@
 use crate::decoded::{Events, Marking, Relation};
 use crate::process::Leads;
 
-/// The event is executed: what its relations lead to, and relations of it among
-/// which its bounded responses are.
+/// The event is executed: what its relations lead to, relations of it among which
+/// its bounded responses are, and whether the table is firm.
 #[inline]
 pub(crate) fn execute<'a>(
     m: &mut Marking,
     event: u8,
     leads: Leads,
     own: impl Iterator<Item = &'a Relation>,
+    firm: bool,
 ) {
     let r = m.of_mut(event);
     r.happened = true;
@@ -23,12 +24,16 @@ pub(crate) fn execute<'a>(
         for target in Events(leads.responses) {
             let r = m.of_mut(target);
             r.pending = true;
-            r.bounded = false;
-            r.deadline = 0;
+            // In a firm table the deadline that a target has is one of those of
+            // which it gets the smallest.
+            if !firm {
+                r.bounded = false;
+                r.deadline = 0;
+            }
         }
         for k in own.filter(|k| k.kind == 2 && k.bounded) {
             let r = m.of_mut(k.right);
-            // The first replaces what the target had, a later one only a later deadline.
+            // The deadline found first stands, then each that is smaller.
             if !r.bounded || k.time < r.deadline {
                 r.deadline = k.time;
             }

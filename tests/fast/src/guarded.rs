@@ -63,7 +63,7 @@ fn settle(p: &Process, m: &mut Marking, due: u64, caused: &mut [u8; 64]) -> usiz
     let mut count = 0;
     in_order(p.survey, needed(p.survey, due, missing, open), |event| {
         if m.of(event).included {
-            execute(m, event, p.leads(event), p.timed(event));
+            execute(m, event, p.leads(event), p.timed(event), p.table.firm);
             caused[count & 63] = event;
             count += 1;
         }

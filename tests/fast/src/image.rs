@@ -25,7 +25,7 @@ fn read_into(image: &[u8], t: &mut Table) -> Result<(), u8> {
     let &[a, b, c, d, ref rest @ ..] = image else {
         return Err(1);
     };
-    if c != 0 || d != 0 {
+    if c & 127 != 0 || d != 0 {
         return Err(2);
     }
     let events = usize::from(a >> 1);
@@ -56,6 +56,7 @@ fn read_into(image: &[u8], t: &mut Table) -> Result<(), u8> {
     }
     t.events = events;
     t.count = count;
+    t.firm = c >> 7 == 1;
     Ok(())
 }
 
@@ -88,7 +89,8 @@ pub fn write_table(t: &Table, buffer: &mut [u8]) -> u8 {
     }
     let (header, rest) = buffer.split_at_mut(4);
     let (classes, relations) = rest.split_at_mut(t.events);
-    header.copy_from_slice(&((t.events as u32) << 25 | (t.count as u32) << 16).to_be_bytes());
+    let counts = (t.events as u32) << 25 | (t.count as u32) << 16;
+    header.copy_from_slice(&(counts | u32::from(t.firm) << 15).to_be_bytes());
     for (event, class) in classes.iter_mut().enumerate() {
         *class = (t.controllable >> event & 1) as u8 * 128 + (t.causable >> event & 1) as u8 * 64;
     }

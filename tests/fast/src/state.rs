@@ -109,12 +109,15 @@ impl State {
         self.counts[place] = self.counts[place].saturating_add(1);
         self.included = self.included & !leads.excludes | leads.includes;
         self.pending = self.pending & !own | leads.responses;
-        self.bounded &= !(own | leads.responses);
-        self.overdue &= !(own | leads.responses);
+        // In a firm table the date that a target has is one of those of which it
+        // gets the soonest.
+        let replaced = if p.table.firm { 0 } else { leads.responses };
+        self.bounded &= !(own | replaced);
+        self.overdue &= !(own | replaced);
         for k in p.timed(event).filter(|k| k.kind == 2) {
             let date = self.now + k.time;
             let until = &mut self.until[usize::from(k.right & 63)];
-            // The first replaces what the target had, a later one only a later date.
+            // The date found first stands, then each that is sooner.
             if self.bounded & only(k.right) == 0 || date < *until {
                 *until = date;
             }

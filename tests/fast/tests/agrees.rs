@@ -2,6 +2,7 @@
 //! cases and at the limits.
 
 use bench::calls::CALLS;
+use bench::turned::turned;
 use second::case::{Answer, Case, Pair};
 use second::rng::Rng;
 use second::{
@@ -26,6 +27,7 @@ macro_rules! as_the_others {
                 causable: t.causable,
                 events: t.events,
                 count: t.count,
+                firm: t.firm,
             }
         }
 
@@ -118,6 +120,7 @@ fn answer(case: &Case) -> Option<Answer> {
             let mut t = fast::Table {
                 events: 7,
                 count: 7,
+                firm: true,
                 controllable: 7,
                 causable: 7,
                 relations: [fast::Relation {
@@ -325,7 +328,29 @@ fn cases_at_the_limits_agree() {
             }
         }
     }
-    assert_eq!(asked.len(), 20);
+    assert_eq!(asked.len(), 21);
+}
+
+/// Firm decides in so many random cases of a call, or more; that of a firm table and
+/// that of one that is not agree.
+fn firm_decides(case: fn(&mut Rng) -> Case, times: usize) {
+    let mut rng = Rng::new(7);
+    let decides = |rng: &mut Rng| {
+        let case = case(rng);
+        let other = turned(&case).expect("the call executes events");
+        agreed(&case) != agreed(&other)
+    };
+    let decided = (0..8_000).filter(|_| decides(&mut rng)).count();
+    assert!(decided >= times, "{decided}");
+}
+
+#[test]
+fn firm_tables_and_others_agree() {
+    firm_decides(generate::request_case, 1000);
+    firm_decides(generate::report_case, 1000);
+    firm_decides(generate::guarded_tick_case, 500);
+    firm_decides(generate::remedies_case, 100);
+    firm_decides(generate::run_bytes_case, 1000);
 }
 
 /// How often each number comes up among the answers to steps of one kind.

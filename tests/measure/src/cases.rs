@@ -28,12 +28,14 @@ pub struct Input {
     pub size: Size,
     table: Vec<u8>,
     rejected: Vec<u8>,
+    firm: Vec<u8>,
     quiet: Vec<u8>,
     one_due: Vec<u8>,
     chain: Vec<u8>,
     two_due: Vec<u8>,
     old: Vec<u8>,
     steps: Vec<u8>,
+    repeats: Vec<u8>,
     buffer: Vec<u8>,
 }
 
@@ -43,12 +45,14 @@ impl Input {
             size,
             table: table_image(&sized::table(size)),
             rejected: table_image(&sized::rejected_table(size)),
+            firm: table_image(&sized::firm_table(size)),
             quiet: marking_image(&sized::quiet(size)),
             one_due: marking_image(&sized::one_due(size)),
             chain: marking_image(&sized::chain(size)),
             two_due: marking_image(&sized::two_due(size)),
             old: old_marking_image(&sized::quiet(size)),
             steps: sized::steps(size, STEPS),
+            repeats: sized::repeats(size, STEPS),
             buffer: vec![0; STEPS],
         }
     }
@@ -88,7 +92,7 @@ pub struct Case {
     pub run: fn(&mut Input, &dyn Calls, usize) -> u64,
 }
 
-pub const CASES: [Case; 23] = [
+pub const CASES: [Case; 24] = [
     case("read_table", |i, side, n| side.read_table(&mut i.table, n)),
     case("write_table", |i, side, n| {
         side.write_table(&i.table, &mut i.buffer, n)
@@ -141,6 +145,11 @@ pub const CASES: [Case; 23] = [
         name: "run_bytes, 4096 steps",
         times: 1,
         run: |i, side, n| side.run_bytes(&i.table, &i.quiet, &i.steps, &mut i.buffer, n),
+    },
+    Case {
+        name: "run_bytes, firm, 4096 steps",
+        times: 1,
+        run: |i, side, n| side.run_bytes(&i.firm, &i.quiet, &i.repeats, &mut i.buffer, n),
     },
 ];
 

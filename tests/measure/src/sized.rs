@@ -70,6 +70,13 @@ pub fn rejected_table(size: Size) -> Table {
     table
 }
 
+/// The same relations, and no response moves a deadline out.
+pub fn firm_table(size: Size) -> Table {
+    let mut table = table(size);
+    table.firm = true;
+    table
+}
+
 /// Every event included, and happened or not, but for the first, which has
 /// happened and is pending with a deadline.
 fn marking(size: Size, happened: bool, deadline: u32) -> Marking {
@@ -126,6 +133,16 @@ pub fn steps(size: Size, count: usize) -> Vec<u8> {
         _ => [3, 0],
     };
     (0..count).flat_map(step).collect()
+}
+
+/// The same with a report of the last event at every fourth step: it has event 0 as
+/// response, which is then still to be done.
+pub fn repeats(size: Size, count: usize) -> Vec<u8> {
+    let mut steps = steps(size, count);
+    for step in steps.chunks_exact_mut(2).step_by(4) {
+        step.copy_from_slice(&[1, size.events as u8 - 1]);
+    }
+    steps
 }
 
 #[cfg(test)]
@@ -188,15 +205,29 @@ mod tests {
         }
     }
 
+    /// The end of a run of which most steps are done.
+    fn end(size: Size, table: &Table, steps: &[u8]) -> Marking {
+        let mut answers = [0; 4096];
+        let answer = run_bytes(table, &quiet(size), steps, &mut answers);
+        assert_eq!(answer.number, 0);
+        let done = answers.iter().filter(|&&number| number == 0).count();
+        assert!(done > 3000, "{size:?}: {done}");
+        answer.marking
+    }
+
     #[test]
     fn most_steps_of_a_run_are_done() {
         for size in SIZES {
-            let mut answers = [0; 4096];
-            let (t, m) = (table(size), quiet(size));
-            let answer = run_bytes(&t, &m, &steps(size, 4096), &mut answers);
-            assert_eq!(answer.number, 0);
-            let done = answers.iter().filter(|&&number| number == 0).count();
-            assert!(done > 3000, "{size:?}: {done}");
+            end(size, &table(size), &steps(size, 4096));
+        }
+    }
+
+    #[test]
+    fn repeats_put_a_duty_off_for_ever_but_in_a_firm_table() {
+        for size in SIZES {
+            let executed = |table| end(size, &table, &repeats(size, 4096)).records[0].count;
+            let (put_off, kept) = (executed(table(size)), executed(firm_table(size)));
+            assert!(kept > put_off + 100, "{size:?}: {kept}, {put_off}");
         }
     }
 }

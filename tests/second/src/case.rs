@@ -106,6 +106,7 @@ pub enum Case {
     },
     BuildTable {
         events: usize,
+        firm: u32,
         classes: Vec<u8>,
         relations: Vec<u32>,
         buffer: Vec<u8>,
@@ -341,12 +342,13 @@ impl Case {
             }
             Case::BuildTable {
                 events,
+                firm,
                 classes,
                 relations,
                 buffer,
             } => {
                 let mut buffer = buffer.clone();
-                let number = build_table(*events, classes, relations, &mut buffer);
+                let number = build_table(*events, *firm, classes, relations, &mut buffer);
                 Answer::Written { number, buffer }
             }
             Case::TellRelation {

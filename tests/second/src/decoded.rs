@@ -36,6 +36,7 @@ pub struct Table {
     pub causable: u64,
     pub events: usize,
     pub count: usize,
+    pub firm: bool,
 }
 
 impl Table {
@@ -45,6 +46,7 @@ impl Table {
         causable: 0,
         events: 0,
         count: 0,
+        firm: false,
     };
 }
 

@@ -13,6 +13,15 @@ fn once_more(before: Option<Happened>) -> Happened {
     Happened { age: 0, count }
 }
 
+/// What a response gives a target that had this deadline once the executing
+/// event was cleared. A firm table never moves it out; any other replaces it.
+fn given(firm: bool, had: Option<Deadline>, new: Deadline) -> Deadline {
+    match had {
+        Some(had) if firm => had.min(new),
+        _ => new,
+    }
+}
+
 pub fn effect(process: &Process, state: &State, event: usize) -> State {
     let mut after = state.clone();
 
@@ -32,8 +41,8 @@ pub fn effect(process: &Process, state: &State, event: usize) -> State {
         }
     }
 
-    // The smallest among the event's own responses is settled first and then
-    // replaces the old deadline, whichever of the two is smaller.
+    // The smallest among the event's own responses is settled first, and only
+    // then meets the deadline that the target has.
     let mut deadlines: BTreeMap<usize, Deadline> = BTreeMap::new();
     for link in process.relations_of(event) {
         if let Meaning::Response(deadline) = link.meaning {
@@ -42,7 +51,8 @@ pub fn effect(process: &Process, state: &State, event: usize) -> State {
         }
     }
     for (target, deadline) in deadlines {
-        after.of[target].pending = Some(deadline);
+        let had = after.of[target].pending;
+        after.of[target].pending = Some(given(process.firm, had, deadline));
     }
     after
 }

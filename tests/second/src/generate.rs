@@ -13,6 +13,7 @@ pub use shape::relation;
 
 use crate::case::{Case, Pair};
 use crate::decoded::{Marking, Table, MOST_EVENTS, MOST_RELATIONS};
+use crate::enabled::enabled;
 use crate::event_set::from_word;
 use crate::guarded::guarded_tick;
 use crate::image::RECORD_BYTES;
@@ -185,6 +186,36 @@ fn some_event_of_class(rng: &mut Rng, table: &Table, controllable: bool) -> usiz
     match rng.pick(&fitting) {
         Some(event) if rng.chance(60) => event,
         _ => some_number(rng, table.events),
+    }
+}
+
+/// An enabled event of the given class with a response to an event that is
+/// pending, if there is one.
+fn some_event_that_meets(rng: &mut Rng, pair: &Pair, controllable: bool) -> Option<usize> {
+    let Pair { table, marking } = pair;
+    let set = from_word(table.controllable, MOST_EVENTS);
+    let meeting: Vec<usize> = table
+        .relations
+        .iter()
+        .take(table.count)
+        .filter(|relation| relation.kind == 2)
+        .filter(|relation| {
+            let target = marking.records.get(usize::from(relation.right));
+            target.is_some_and(|record| record.pending)
+        })
+        .map(|relation| usize::from(relation.left))
+        .filter(|event| set.contains(event) == controllable)
+        .filter(|&event| enabled(table, marking, event).enabled)
+        .collect();
+    rng.pick(&meeting)
+}
+
+/// An event to ask for, of the given class more often than not, and often one
+/// that meets another with a response.
+fn some_event_to_ask(rng: &mut Rng, pair: &Pair, controllable: bool) -> usize {
+    match some_event_that_meets(rng, pair, controllable) {
+        Some(event) if rng.chance(70) => event,
+        _ => some_event_of_class(rng, &pair.table, controllable),
     }
 }
 
@@ -412,13 +443,13 @@ pub fn due_case(rng: &mut Rng) -> Case {
 
 pub fn request_case(rng: &mut Rng) -> Case {
     let pair = pair(rng);
-    let event = some_event_of_class(rng, &pair.table, true);
+    let event = some_event_to_ask(rng, &pair, true);
     Case::Request { pair, event }
 }
 
 pub fn report_case(rng: &mut Rng) -> Case {
     let pair = pair(rng);
-    let event = some_event_of_class(rng, &pair.table, false);
+    let event = some_event_to_ask(rng, &pair, false);
     Case::Report { pair, event }
 }
 
@@ -431,8 +462,15 @@ pub fn margin_case(rng: &mut Rng) -> Case {
     let conditions: Vec<usize> = (0..pair.table.count.min(MOST_RELATIONS))
         .filter(|&number| pair.table.relations[number].kind == 1)
         .collect();
-    let relation = match rng.pick(&conditions) {
-        Some(condition) if rng.chance(60) => condition,
+    // Those with a time are few, and the others wait for no tick.
+    let timed: Vec<usize> = conditions
+        .iter()
+        .copied()
+        .filter(|&number| pair.table.relations[number].time > 0)
+        .collect();
+    let relation = match (rng.pick(&conditions), rng.pick(&timed)) {
+        (_, Some(condition)) if rng.chance(30) => condition,
+        (Some(condition), _) if rng.chance(60) => condition,
         _ => some_number(rng, pair.table.count),
     };
     Case::Margin { pair, relation }

@@ -13,6 +13,7 @@ pub const RECORD_BYTES: usize = 12;
 struct Header {
     events: usize,
     relations: usize,
+    firm: bool,
     spare: u32,
 }
 
@@ -20,7 +21,8 @@ fn header(cursor: &mut BitReader) -> Header {
     Header {
         events: cursor.take(7) as usize,
         relations: cursor.take(9) as usize,
-        spare: cursor.take(16),
+        firm: cursor.take_flag(),
+        spare: cursor.take(15),
     }
 }
 
@@ -73,6 +75,7 @@ fn decode_table(bytes: &[u8]) -> Result<Table, u8> {
     let mut table = Table::EMPTY;
     table.events = header.events;
     table.count = header.relations;
+    table.firm = header.firm;
 
     (table.controllable, table.causable) = take_classes(&mut cursor, header.events)?;
 

@@ -89,6 +89,7 @@ pub fn understand_table(table: &Table) -> Result<Process, u8> {
         controllable: event_set::from_word(table.controllable, table.events),
         causable: event_set::from_word(table.causable, table.events),
         relations,
+        firm: table.firm,
     })
 }
 

@@ -1,11 +1,11 @@
-//! A table built from plain numbers, and told back in them: a class byte for
-//! each event, five numbers for each relation.
+//! A table built from plain numbers, and told back in them: whether it is firm,
+//! a class byte for each event, five numbers for each relation.
 
 use crate::bits::BitReader;
 use crate::decoded::{Relation, Table};
 use crate::image::{read_table, take_classes};
 use crate::judge::judge_counts;
-use crate::refusal::{DOES_NOT_EXIST, DONE, LENGTH, TOO_LONG_OR_SHORT};
+use crate::refusal::{DOES_NOT_EXIST, DONE, LENGTH, SPARE_BIT, TOO_LONG_OR_SHORT};
 use crate::writing::{class_bytes, write_table};
 
 /// Kind, left, right, bounded and time.
@@ -37,8 +37,19 @@ pub fn numbers_of(relation: &Relation) -> [u32; NUMBERS] {
     ]
 }
 
+/// The header has one bit for it, so that any larger number would need bits
+/// that are spare. A decoded table cannot hold one, so it is refused here.
+fn firm_from(number: u32) -> Result<bool, u8> {
+    match number {
+        0 => Ok(false),
+        1 => Ok(true),
+        _ => Err(SPARE_BIT),
+    }
+}
+
 /// The decoded table, its relations not judged yet.
-fn table_from(events: usize, classes: &[u8], relations: &[u32]) -> Result<Table, u8> {
+fn table_from(events: usize, firm: u32, classes: &[u8], relations: &[u32]) -> Result<Table, u8> {
+    let firm = firm_from(firm)?;
     let (fives, left_over) = relations.as_chunks::<NUMBERS>();
     judge_counts(events, fives.len())?;
     if classes.len() != events || !left_over.is_empty() {
@@ -47,6 +58,7 @@ fn table_from(events: usize, classes: &[u8], relations: &[u32]) -> Result<Table,
     let mut table = Table::EMPTY;
     table.events = events;
     table.count = fives.len();
+    table.firm = firm;
     let mut cursor = BitReader::new(classes);
     (table.controllable, table.causable) = take_classes(&mut cursor, events)?;
     for (place, numbers) in table.relations.iter_mut().zip(fives) {
@@ -56,8 +68,14 @@ fn table_from(events: usize, classes: &[u8], relations: &[u32]) -> Result<Table,
 }
 
 /// Writes the image of the table that these numbers are to a lent buffer.
-pub fn build_table(events: usize, classes: &[u8], relations: &[u32], buffer: &mut [u8]) -> u8 {
-    match table_from(events, classes, relations) {
+pub fn build_table(
+    events: usize,
+    firm: u32,
+    classes: &[u8],
+    relations: &[u32],
+    buffer: &mut [u8],
+) -> u8 {
+    match table_from(events, firm, classes, relations) {
         Ok(table) => write_table(&table, buffer),
         Err(number) => number,
     }
@@ -95,4 +113,13 @@ pub fn tell_class(image: &[u8], event: usize, place: &mut u8) -> u8 {
         }
         None => DOES_NOT_EXIST,
     }
+}
+
+/// Writes 1 to the lent place for a firm table, 0 for any other.
+pub fn tell_firm(image: &[u8], place: &mut u32) -> u8 {
+    let read = read_table(image);
+    if read.number == DONE {
+        *place = u32::from(read.table.firm);
+    }
+    read.number
 }

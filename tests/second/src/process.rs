@@ -47,6 +47,8 @@ pub struct Process {
     pub controllable: EventSet,
     pub causable: EventSet,
     pub relations: Vec<Link>,
+    /// Whether a response leaves a smaller deadline that its target has.
+    pub firm: bool,
 }
 
 impl Process {

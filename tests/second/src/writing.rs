@@ -12,10 +12,11 @@ use crate::refusal::{DONE, TOO_LONG_OR_SHORT};
 const HEADER_EVENTS: usize = 127;
 const HEADER_RELATIONS: usize = 511;
 
-fn put_header(writer: &mut BitWriter, events: usize, relations: usize) {
+fn put_header(writer: &mut BitWriter, events: usize, relations: usize, firm: bool) {
     writer.put(events as u32, 7);
     writer.put(relations as u32, 9);
-    writer.put(0, 16);
+    writer.put_flag(firm);
+    writer.put(0, 15);
 }
 
 fn put_relation(writer: &mut BitWriter, relation: &Relation) {
@@ -65,7 +66,7 @@ pub fn table_image(table: &Table) -> Vec<u8> {
     let events = table.events.min(HEADER_EVENTS);
     let count = table.count.min(HEADER_RELATIONS);
     let mut writer = BitWriter::new();
-    put_header(&mut writer, events, count);
+    put_header(&mut writer, events, count, table.firm);
     put_classes(&mut writer, table, events);
     for number in 0..count {
         let relation = table.relations.get(number).copied();

@@ -2,6 +2,7 @@
 
 mod carriers;
 mod counted;
+mod firm;
 mod promises;
 
 use promises::{accepts, promise};
@@ -23,7 +24,7 @@ fn for_each_case(mut look_at: impl FnMut(&Case, &Answer)) {
 }
 
 /// Every number that a call can give. Decoded values have no spare bits, so 2
-/// is for those that read table images or class bytes.
+/// is for those that read table images, or class bytes and firm as numbers.
 const NUMBERS: [(&str, &[u8]); 27] = [
     ("read_table", &[0, 1, 2, 3, 4, 5, 6]),
     ("read_marking", &[0, 1, 3, 7]),
@@ -417,6 +418,9 @@ fn bad_written_tables(
         let mut mixed = *table;
         mixed.causable = mixed.controllable;
         bad.push(("mixes the classes up", 0, image_over(&mixed, before)));
+        let mut plain = *table;
+        plain.firm = false;
+        bad.push(("forgets firm", 0, image_over(&plain, before)));
         let mut fewer = *table;
         fewer.count = fewer.count.saturating_sub(1);
         bad.push((
@@ -431,7 +435,7 @@ fn bad_written_tables(
 
 #[test]
 fn bad_table_writers_are_noticed() {
-    all_noticed(10, |case, answer| match (case, answer) {
+    all_noticed(11, |case, answer| match (case, answer) {
         (
             Case::WriteTable {
                 table,
@@ -460,6 +464,7 @@ fn a_builder_that_cuts_numbers_down_is_noticed() {
     for_each_case(|case, answer| {
         let Case::BuildTable {
             events,
+            firm,
             classes,
             relations,
             buffer,
@@ -468,7 +473,7 @@ fn a_builder_that_cuts_numbers_down_is_noticed() {
             return;
         };
         let mut bad = buffer.clone();
-        let number = build_table(*events, classes, &cut_down(relations), &mut bad);
+        let number = build_table(*events, firm % 2, classes, &cut_down(relations), &mut bad);
         if number != answer.number() {
             let bad = Answer::Written {
                 number,
@@ -479,7 +484,8 @@ fn a_builder_that_cuts_numbers_down_is_noticed() {
         }
     });
     println!("noticed: {noticed:?}");
-    for number in [4, 5, 6] {
+    // Class bytes are not cut down, so 2 is for firm.
+    for number in [2, 4, 5, 6] {
         assert!(noticed.contains_key(&number), "{noticed:?}");
     }
 }

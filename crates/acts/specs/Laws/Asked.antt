@@ -15,7 +15,7 @@ use Rattle.rules.specs.Shapes.Asked.{askNumber, other}
 use Rattle.rules.specs.Laws.Ask.{other-same}
 use Rattle.rules.specs.Laws.Numbers.{else-done, else-refused}
 use Rattle.acts.specs.declared.derived.Head.{Head}
-use Rattle.acts.specs.Derived.{headOf}
+use Rattle.acts.specs.Derived.{firmSet, headOf}
 
 -- 8, 9
 abbrev pub classNumber : Bool → Table → ℕ → ℕ
@@ -27,6 +27,10 @@ same-events head t is = ap (λ (k : Head). k .events) is
 
 pub head-exists : (head : Head) (e : ℕ) (t : Table) → head ≡ headOf t → e < head .events → e < t .events
 head-exists head e t is b = omega (arith, same-events head t is)
+
+-- firm as the table says
+pub head-firm : (head : Head) (t : Table) → head ≡ headOf t → head .firm ≡ firmSet (t .firm)
+head-firm head t is = ap (λ (k : Head). k .firm) is
 
 module _ (wanted : Bool) (head : Head) (e : ℕ) (t : Table) (is : head ≡ headOf t) where
   of-class : {b : Bool} → Bool·beq (has (head .controllable) e) wanted ≡ b → other wanted t e ≡ not b

@@ -12,7 +12,7 @@ use Rattle.rules.specs.Laws.Counting.{some-at, some-none}
 use Rattle.rules.specs.Shapes.Good.{GoodTable}
 use Rattle.acts.specs.Derived.{lastOf, Own}
 use Rattle.acts.specs.Acting.{isYoung, waitsFor}
-use Rattle.acts.specs.Laws.Linked.{last-le, waits-chained}
+use Rattle.acts.specs.Laws.Linked.{waits-chained}
 use Rattle.acts.specs.Laws.Walked.{last-kept, Next, next-last, LinkMet, met-next, met-less}
 
 module _ (t : Table) (e clock included : ℕ) (columns : List ℕ) where
@@ -28,10 +28,8 @@ module _ (t : Table) (e clock included : ℕ) (columns : List ℕ) where
   waiting-last n b same = record { next = next-last t 1 e n b; same = same ∙ last-kept t 1 e waits n (λ k l other. rw other (or-false (waits k))) }
 
   module _ (good : GoodTable t) (rows : List ℕ) (at : ℕ) (links : List ℕ) (own : Own t (t .count) e rows at links) where
-    pub waiting-start : Waiting (getD rows (at + 9) 0 % 512)
-    waiting-start =
-        let whole : getD rows (at + 9) 0 % 512 ≡ lastOf t 1 e (t .count) = omega (arith, own .waits, last-le t 1 e (t .count), good .few-relations) in
-        rw whole (waiting-last (t .count) (omega arith) refl)
+    pub waiting-start : Waiting (getD rows (at + 9) 0)
+    waiting-start = rw (own .waits) (waiting-last (t .count) (omega arith) refl)
 
     module _ (n : ℕ) (waiting : Waiting n) where
       pub waiting-end : n ≡ 0 → waits (t .count) ≡ false

@@ -26,7 +26,7 @@ use Rattle.rules.specs.Laws.Needed.{needed-fits}
 use Rattle.rules.specs.Laws.Order.{order-length}
 use Rattle.rules.specs.Shapes.Good.{GoodTable}
 use Rattle.rules.specs.Laws.Widened.{has-below}
-use Rattle.acts.specs.Derived.{Derived, Linked}
+use Rattle.acts.specs.Derived.{firmSet, Derived, Linked}
 use Rattle.duties.specs.Inhibition.{readyIn}
 use Rattle.acts.specs.Stands.{Stands}
 use Rattle.duties.specs.AtStart.{AtStart}
@@ -161,17 +161,18 @@ module _ (t : Table) (before : List ℕ) where
       let put = ap (λ (s : GuardedAnswer). s .caused) all in
       (ap (λ (s : GuardedAnswer). s .marking) all, record { counted = ap (λ (s : GuardedAnswer). s .count) all; put = put })
 
--- The words that are lent are a table's of n events, and the set is one of its events.
-pub record Lent (t : Table) (rows links : List ℕ) (n needed : ℕ) : Type 0 where
+-- The words that are lent are a table's of n events, firm or not, and the set is one of its events.
+pub record Lent (t : Table) (rows links : List ℕ) (n needed firm : ℕ) : Type 0 where
   pub good : GoodTable t
   pub derived : Derived t (t .count) rows
   pub linked : Linked t (t .count) rows links
   pub sized : t .events ≡ n
   pub fits : needed < 2 ^ t .events
+  pub firmly : firm ≡ firmSet (t .firm)
 
-pub lent : {t : Table} {rows links : List ℕ} {n needed : ℕ} → GoodTable t → Derived t (t .count) rows → Linked t (t .count) rows links
-    → t .events ≡ n → needed < 2 ^ n → Lent t rows links n needed
-lent good derived linked sized fits = record { good = good; derived = derived; linked = linked; sized = sized; fits = rw sized fits }
+pub lent : {t : Table} {rows links : List ℕ} {n needed firm : ℕ} → GoodTable t → Derived t (t .count) rows → Linked t (t .count) rows links
+    → t .events ≡ n → firm ≡ firmSet (t .firm) → needed < 2 ^ n → Lent t rows links n needed firm
+lent good derived linked sized firmly fits = record { good = good; derived = derived; linked = linked; sized = sized; fits = rw sized fits; firmly = firmly }
 
 -- the end: the words stand for the marking after the whole order, and its executed events are told
 abbrev pub TakenAll : Table → ℕ → List Record → ℕ → ℕ → Marking → List ℕ → List ℕ → List ℕ → List ℕ → ℕ → Type 0
@@ -184,7 +185,7 @@ Underway t tail clock needed m before sets columns list count untaken i =
     (now : Marking) × (Stands (t .events) tail clock sets columns now) × Onward t needed (stateOf m before 0) (stateOf now list count) untaken i
 
 -- the loop that takes the events: what is true of any words, and what is besides of those of a table and a marking
-pub record Taking (rows links : List ℕ) (clock : ℕ) (first-sets first-columns before : List ℕ) (n needed : ℕ)
+pub record Taking (rows links : List ℕ) (clock : ℕ) (first-sets first-columns before : List ℕ) (n needed firm : ℕ)
     (sets columns list : List ℕ) (untaken word count i : ℕ)
     : Type 0 where
   pub upto : i ≤ n
@@ -192,10 +193,10 @@ pub record Taking (rows links : List ℕ) (clock : ℕ) (first-sets first-column
   pub less : untaken ≤ needed
   pub fits : word < 2 ^ 64
   pub readied : Ready rows needed untaken word
-  pub onward : (t : Table) (tail : List Record) (m : Marking) → Lent t rows links n needed → Stands n tail clock first-sets first-columns m
+  pub onward : (t : Table) (tail : List Record) (m : Marking) → Lent t rows links n needed firm → Stands n tail clock first-sets first-columns m
       → Underway t tail clock needed m before sets columns list count untaken i
 
-module _ {t : Table} {rows links : List ℕ} {n needed : ℕ} (l : Lent t rows links n needed) (tail : List Record) (clock : ℕ) (m : Marking) (before : List ℕ)
+module _ {t : Table} {rows links : List ℕ} {n needed firm : ℕ} (l : Lent t rows links n needed firm) (tail : List Record) (clock : ℕ) (m : Marking) (before : List ℕ)
   where
     pub underway-start : (sets columns : List ℕ) → Stands n tail clock sets columns m → Underway t tail clock needed m before sets columns before 0 needed 0
     underway-start sets columns stands = (m, rw (l .sized) stands, onward-start t needed (stateOf m before 0))

@@ -6,7 +6,7 @@ use mathlib.Core.List.{List, _++_}
 use Prim.Native.Nat.{ℕ, _+_, _-_, _*_, _/_, _%_, _^_, _<_, _≤_}
 use lib.Dec.{eqb, ltb}
 use lib.ListN.{length, drop, getD, replicate}
-use borrow.Author.Tests.{leb-true, eqb-true}
+use borrow.Author.Tests.{lt-ltb, le-ltb, leb-true, eqb-true}
 use Rattle.rules.specs.declared.Relation.{Relation}
 use Rattle.rules.specs.declared.Table.{Table}
 use Rattle.rules.specs.Numbers.{_if_, _else_, firstOf, done}
@@ -40,30 +40,36 @@ module _ (classes : List ℕ) (e : ℕ) (byte : getD classes e 0 < 256) where
   pub byte-spare : getD classes e 0 % 64 ≡ field classes (8 * e + 2) 6
   byte-spare = ap (λ (w : ℕ). w % 64) (sym (byte-field classes e byte)) ∙ sym (last-part classes (8 * e) 2 6)
 
-module _ (events : ℕ) (classes numbers : List ℕ) where
+module _ (events firm : ℕ) (classes numbers : List ℕ) where
+  -- a refusal leaves every byte
+  pub build-left : (number : ℕ) (buffer : List ℕ) → number ≡ buildNumber events firm classes numbers (length buffer) → (number ≡ 0 → ⊥)
+      → buffer ≡ build events firm classes numbers buffer
+  unfolding build
+  build-left number buffer e h = left (buildNumber events firm classes numbers (length buffer)) _ buffer (λ z. h (e ∙ z))
+
+  pub firm-refuse : 1 < firm → (room : ℕ) → 2 ≡ buildNumber events firm classes numbers room
+  unfolding buildNumber
+  firm-refuse h room = rw (lt-ltb 1 firm h)
+
+-- firm is 0 or 1
+module _ (events firm : ℕ) (classes numbers : List ℕ) (told : firm ≤ 1) where
   abbrev made : Table
-  made = heldTable events (setOf events (isControllableIn classes)) (setOf events (isCausableIn classes)) numbers
+  made = heldTable events (eqb firm 1) (setOf events (isControllableIn classes)) (setOf events (isCausableIn classes)) numbers
 
   abbrev counts : ℕ
   counts = countsNumber events (length classes) (length numbers)
 
   relation-made : (k : ℕ) → k < relationsTold numbers → relationOf made k ≡ heldRelation numbers k
-  relation-made = relation-with events (relationsTold numbers) (heldRelation numbers) (isControllableIn classes) (isCausableIn classes)
+  relation-made = relation-with events (relationsTold numbers) (eqb firm 1) (heldRelation numbers) (isControllableIn classes) (isCausableIn classes)
 
   -- the numbers in their order, by the functions that give them
-  in-order : (room : ℕ) → buildNumber events classes numbers room
+  in-order : (room : ℕ) → buildNumber events firm classes numbers room
       ≡ (counts else firstOf events (classNumber classes) else firstOf (relationsTold numbers) (numbersNumber events numbers)
       else 14 if ltb room (tableLength events (relationsTold numbers)))
   unfolding buildNumber
-  in-order room = sym (else-joined (3 if not (eventsFit events && relationsFit (relationsTold numbers))) _ _)
+  in-order room = rw (le-ltb 1 firm told) (sym (else-joined (3 if not (eventsFit events && relationsFit (relationsTold numbers))) _ _))
 
-  -- a refusal leaves every byte
-  pub build-left : (number : ℕ) (buffer : List ℕ) → number ≡ buildNumber events classes numbers (length buffer) → (number ≡ 0 → ⊥)
-      → buffer ≡ build events classes numbers buffer
-  unfolding build
-  build-left number buffer e h = left (buildNumber events classes numbers (length buffer)) _ buffer (λ z. h (e ∙ z))
-
-  pub counts-refuse : (number : ℕ) → number ≡ counts → (number ≡ 0 → ⊥) → (room : ℕ) → number ≡ buildNumber events classes numbers room
+  pub counts-refuse : (number : ℕ) → number ≡ counts → (number ≡ 0 → ⊥) → (room : ℕ) → number ≡ buildNumber events firm classes numbers room
   counts-refuse number e h room = e ∙ sym (in-order room ∙ else-refused _ (λ z. h (e ∙ z)))
 
   module _ (counted : counts ≡ 0) where
@@ -89,7 +95,7 @@ module _ (events : ℕ) (classes numbers : List ℕ) where
         rw fit (first-same _ (numbersNumber events numbers) (relationsTold numbers)
         (λ k b. ap (relationNumber events) (relation-made k b) ∙ relation-judged events events-few numbers k))
 
-    made-told : tableNumber made ≡ 0 → made ≡ tableFrom events classes numbers
+    made-told : tableNumber made ≡ 0 → made ≡ tableFrom events firm classes numbers
     unfolding tableFrom
     made-told h =
         ap (λ (l : List Relation). record {
@@ -98,6 +104,7 @@ module _ (events : ℕ) (classes numbers : List ℕ) where
           causable = setOf events (isCausableIn classes);
           events = events;
           count = relationsTold numbers;
+          firm = eqb firm 1;
         })
         (places-same emptyRelation (heldRelation numbers) (relationFrom numbers) (relationsTold numbers)
         (λ k b. relation-kept events events-few numbers k (subst (GoodRelation events) (relation-made k b) (good-table made h .relations-good k b))))
@@ -107,7 +114,7 @@ module _ (events : ℕ) (classes numbers : List ℕ) where
       number-of : sets .number ≡ firstOf events (classNumber classes)
       number-of = ap (λ (s : Classes). s .number) sets-are ∙ ap (λ (n : ℕ). firstOf n (classNumber classes)) classes-long
 
-      pub classes-refuse : (sets .number ≡ 0 → ⊥) → (room : ℕ) → sets .number ≡ buildNumber events classes numbers room
+      pub classes-refuse : (sets .number ≡ 0 → ⊥) → (room : ℕ) → sets .number ≡ buildNumber events firm classes numbers room
       classes-refuse h room = number-of ∙ sym (in-order room ∙ else-done _ counted ∙ else-refused _ (λ z. h (number-of ∙ z)))
 
       module _ (clear : sets .number ≡ 0) where
@@ -120,24 +127,24 @@ module _ (events : ℕ) (classes numbers : List ℕ) where
         causes : sets .causable ≡ setOf events (isCausableIn classes)
         causes = ap (λ (s : Classes). s .causable) sets-are ∙ rw (cleared, classes-long)
 
-        number-made : (room : ℕ) → writeTableNumber made room ≡ buildNumber events classes numbers room
+        number-made : (room : ℕ) → writeTableNumber made room ≡ buildNumber events firm classes numbers room
         unfolding writeTableNumber
         number-made room =
             ap (λ (n : ℕ). n else 14 if ltb room (tableLength events (relationsTold numbers))) table-judged
             ∙ sym (in-order room ∙ else-done _ counted ∙ else-done _ (sym number-of ∙ clear))
 
-        bytes-made : (buffer : List ℕ) → writeTable made buffer ≡ build events classes numbers buffer
+        bytes-made : (buffer : List ℕ) → writeTable made buffer ≡ build events firm classes numbers buffer
         unfolding writeTable build writeTableNumber
         bytes-made buffer =
             ap (λ (n : ℕ). done n (tableImage made ++ drop (tableLength events (relationsTold numbers)) buffer) buffer) (number-made (length buffer))
-            ∙ done-alike (buildNumber events classes numbers (length buffer)) _ _ buffer
+            ∙ done-alike (buildNumber events firm classes numbers (length buffer)) _ _ buffer
             (λ z.
             ap (λ (t : Table). tableImage t ++ drop (tableLength events (relationsTold numbers)) buffer)
             (made-told (both-done (tableNumber made) _ (number-made (length buffer) ∙ z) .0)))
 
-        pub table-written : (t : Table) → t ≡ heldTable events (sets .controllable) (sets .causable) numbers → (buffer : List ℕ) (number : ℕ) (put : List ℕ)
-            → number ≡ writeTableNumber t (length buffer) → put ≡ writeTable t buffer
-            → (number ≡ buildNumber events classes numbers (length buffer)) × (put ≡ build events classes numbers buffer)
+        pub table-written : (t : Table) → t ≡ heldTable events (eqb firm 1) (sets .controllable) (sets .causable) numbers
+            → (buffer : List ℕ) (number : ℕ) (put : List ℕ) → number ≡ writeTableNumber t (length buffer) → put ≡ writeTable t buffer
+            → (number ≡ buildNumber events firm classes numbers (length buffer)) × (put ≡ build events firm classes numbers buffer)
         table-written t t-is buffer number put n p =
             let same : t ≡ made = t-is ∙ rw (controls, causes) in (
               n ∙ ap (λ (x : Table). writeTableNumber x (length buffer)) same ∙ number-made (length buffer),

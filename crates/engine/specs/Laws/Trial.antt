@@ -22,10 +22,11 @@ use Rattle.rules.specs.Laws.Time.{none-due-yet, some-due-still}
 use Rattle.rules.specs.Shapes.Tried.{mayCause}
 use Rattle.rules.specs.Laws.Remedy.{TriedSoFar, passed-none, passed-more, found-here, found-none, stuck-here}
 use Rattle.acts.specs.declared.derived.Head.{Head}
-use Rattle.acts.specs.Derived.{headOf, Own, Derived, Linked}
+use Rattle.acts.specs.Derived.{firmSet, headOf, Own, Derived, Linked}
 use Rattle.acts.specs.Stands.{Stands}
 use Rattle.engine.specs.Trial.{Tried}
 use Rattle.acts.specs.Laws.Linked.{derived-own}
+use Rattle.acts.specs.Laws.Asked.{head-firm}
 
 -- What a table's head says of it.
 module _ (t : Table) (head : Head) (of : head ≡ headOf t) where
@@ -74,7 +75,7 @@ module _ (rows links : List ℕ) (head : Head) (list : List ℕ) (sets columns :
         → Stands (t .events) tail 0 now-sets now-columns k → go ≡ (anyDue k && mayCause t k (getD list i 0)))
         → (next-sets next-columns : List ℕ)
         → ((t : Table) (tail : List Record) (k : Marking) → GoodTable t → Own t (t .count) (getD list i 0) rows (10 * getD list i 0) links
-        → getD list i 0 < t .events
+        → getD list i 0 < t .events → head .firm ≡ firmSet (t .firm)
         → Stands (t .events) tail 0 now-sets now-columns k → Stands (t .events) tail 0 next-sets next-columns (effect t k (getD list i 0)))
         → Trying rows links head list (i + 1) sets columns next-sets next-columns
     trying-more more go goes exists few says next-sets next-columns effects t tail m done derived linked of stands =
@@ -84,7 +85,8 @@ module _ (rows links : List ℕ) (head : Head) (list : List ℕ) (sets columns :
         let on = both (anyDue (w .0)) (mayCause t (w .0) e) (sym (says t tail (w .0) known derived linked of (w .1 .0)) ∙ goes) in (
           effect t (w .0) e,
           (
-            effects t tail (w .0) known (derived-own t (t .count) e rows links derived linked (omega arith)) (exists-headed t head of e exists) (w .1 .0),
+            effects t tail (w .0) known (derived-own t (t .count) e rows links derived linked (omega arith)) (exists-headed t head of e exists)
+                (head-firm head t of) (w .1 .0),
             passed-more t m list i (w .0) (w .1 .1) more (on .0) (on .1),
           ),
         )

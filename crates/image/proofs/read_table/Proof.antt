@@ -5,17 +5,18 @@ use Prim.Native.Nat.{ℕ, _≤_, _+_, _*_, _/_, _%_}
 use native.Mathlib.Omega.{arith}
 use borrow.Author.Needs.{needs}
 use borrow.Author.Tests.{not-true, not-false}
+use lib.Dec.{eqb}
 use lib.ListN.{length}
 use Rattle.rules.specs.Numbers.{firstOf}
 use Rattle.rules.specs.EventSet.{setOf}
 use Rattle.rules.specs.Holds.{mostRelations}
 use Rattle.rules.specs.Judge.{eventsFit}
-use Rattle.rules.specs.Image.{eventsIn, relationsIn, headerSpare, tableLength}
+use Rattle.rules.specs.Image.{eventsIn, relationsIn, firmIn, headerSpare, tableLength}
 use Rattle.rules.specs.Laws.Fit.{fit-few}
 use Rattle.image.specs.declared.table.Classes.{Classes}
 use Rattle.image.specs.Parts.{classNumber, isControllableIn, isCausableIn, classesRead}
-use Rattle.image.specs.Laws.Tables.{header-events, header-relations, header-spare, ends-short, ends-spare, ends-events, ends-relations, ends-length}
-use Rattle.image.specs.Laws.Tables.{ends-classes, ends-relation}
+use Rattle.image.specs.Laws.Tables.{header-events, header-relations, header-firm, header-spare, ends-short, ends-spare, ends-events, ends-relations}
+use Rattle.image.specs.Laws.Tables.{ends-length, ends-classes, ends-relation}
 use Rattle.image.proofs.read_table.Statement.{statement}
 use Rattle.image.proofs.read_table.Tie as tie
 
@@ -29,14 +30,17 @@ word-requires : tie.Need-word-requires
 word-requires c κs = search needs
 
 -- the header's fields, as the code has them
-spare : (c : tie.After-word) → c .word .result % 65536 ≡ headerSpare (c .before .before .before .args .image .now)
-spare c = ap (λ (w : ℕ). w % 65536) (c .word .ensures) ∙ header-spare _
+spare : (c : tie.After-word) → c .word .result % 32768 ≡ headerSpare (c .before .before .before .args .image .now)
+spare c = ap (λ (w : ℕ). w % 32768) (c .word .ensures) ∙ header-spare _
 
 events : (c : tie.After-word) → c .word .result / 33554432 % 128 ≡ eventsIn (c .before .before .before .args .image .now)
 events c = ap (λ (w : ℕ). w / 33554432 % 128) (c .word .ensures) ∙ header-events _
 
 relations : (c : tie.After-word) → c .word .result / 65536 % 512 ≡ relationsIn (c .before .before .before .args .image .now)
 relations c = ap (λ (w : ℕ). w / 65536 % 512) (c .word .ensures) ∙ header-relations _
+
+firm : (c : tie.After-word) → eqb (c .word .result / 32768 % 2) 1 ≡ firmIn (c .before .before .before .args .image .now)
+firm c = ap (λ (w : ℕ). eqb (w / 32768 % 2) 1) (c .word .ensures) ∙ header-firm _
 
 refused-requires-2 : tie.Need-refused-requires-2
 refused-requires-2 c κs = search needs
@@ -166,6 +170,7 @@ returns-7 c =
       c .relations-in .ensures,
       events (c .before .before .before .before .before .before .before .before .before),
       relations (c .before .before .before .before .before .before .before .before .before),
+      firm (c .before .before .before .before .before .before .before .before .before),
       controllable (c .before),
       causable (c .before),
     )

@@ -1,5 +1,5 @@
 -- A table that is built from plain numbers: what a build that is done was told, that its table is judged 'done' with its unused places empty, and
--- that its relations and classes are again the numbers that they were told as. Where the numbers tell a table, building is writing it.
+-- that firm, its relations and its classes are again the numbers that they were told as. Where the numbers tell a table, building is writing it.
 -- Assumes nothing.
 use mathlib.Core.Path.{_≡_, refl, sym, ap, ap₂, _∙_}
 use mathlib.Core.Bool.{Bool, true, not, _&&_}
@@ -30,7 +30,8 @@ use Rattle.rules.specs.Laws.Fields.{flag-bit, bit-flag, bit-lt, byte-field}
 use Rattle.image.specs.Laws.TableWords.{class-fits, class-back, class-again}
 
 -- what a build that is done was told
-pub record Told (events : ℕ) (classes numbers : List ℕ) : Type 0 where
+pub record Told (events firm : ℕ) (classes numbers : List ℕ) : Type 0 where
+  pub firm-bit : firm < 2
   pub fit : eventsFit events && relationsFit (relationsTold numbers) ≡ true
   pub class-each : length classes ≡ events
   pub five-each : length numbers ≡ 5 * relationsTold numbers
@@ -47,14 +48,15 @@ first-five (a ∷ b ∷ c ∷ []) h = absurd (omega arith)
 first-five (a ∷ b ∷ c ∷ d ∷ []) h = absurd (omega arith)
 first-five (a ∷ b ∷ c ∷ d ∷ e ∷ rest) h = refl
 
-module _ (events : ℕ) (classes numbers : List ℕ) where
-  pub told : (room : ℕ) → buildNumber events classes numbers room ≡ 0 → Told events classes numbers
+module _ (events firm : ℕ) (classes numbers : List ℕ) where
+  pub told : (room : ℕ) → buildNumber events firm classes numbers room ≡ 0 → Told events firm classes numbers
   unfolding buildNumber numbersNumber
   told room h =
       let count = relationsTold numbers in
       let fits = eventsFit events && relationsFit count in
       let exact = eqb (length classes) events && eqb (length numbers) (5 * count) in
-      let p = both-done (3 if not fits) _ h in
+      let f = both-done (2 if ltb 1 firm) _ h in
+      let p = both-done (3 if not fits) _ (f .1) in
       let q = both-done (1 if not exact) _ (p .1) in
       let r = both-done (firstOf events (λ e. 2 if not (eqb (field classes (8 * e + 2) 6) 0))) _ (q .1) in
       let s = both-done (firstOf count (numbersNumber events numbers)) _ (r .1) in
@@ -62,6 +64,7 @@ module _ (events : ℕ) (classes numbers : List ℕ) where
       λ k l. both-done (relationNumber events (relationFrom numbers k)) _ (first-each (numbersNumber events numbers) count k (s .0) l) in
       let sizes = both (eqb (length classes) events) _ (not-false exact (if-done 0 _ (q .0))) in
       record {
+        firm-bit = omega (arith, ltb-false 1 firm (if-done 1 _ (f .0)));
         fit = not-false fits (if-done 2 _ (p .0));
         class-each = eqb-true (length classes) events (sizes .0);
         five-each = eqb-true (length numbers) (5 * count) (sizes .1);
@@ -72,31 +75,31 @@ module _ (events : ℕ) (classes numbers : List ℕ) where
         bounded-bit = λ k l. omega (arith, ltb-false 1 (numberIn numbers k 3) (if-done 5 _ (each k l .1)));
       }
 
-  pub told-unused : unusedEmpty (tableFrom events classes numbers) ≡ tableFrom events classes numbers
+  pub told-unused : unusedEmpty (tableFrom events firm classes numbers) ≡ tableFrom events firm classes numbers
   unfolding tableFrom
-  told-unused = with-unused events (relationsTold numbers) (relationFrom numbers) (λ e. flag classes (8 * e)) (λ e. flag classes (8 * e + 1))
+  told-unused = with-unused events (relationsTold numbers) (eqb firm 1) (relationFrom numbers) (λ e. flag classes (8 * e)) (λ e. flag classes (8 * e + 1))
 
-  module _ (t : Told events classes numbers) where
-    pub told-done : tableNumber (tableFrom events classes numbers) ≡ 0
+  module _ (t : Told events firm classes numbers) where
+    pub told-done : tableNumber (tableFrom events firm classes numbers) ≡ 0
     unfolding tableFrom
     told-done =
-        with-done events (relationsTold numbers) (relationFrom numbers) (λ e. flag classes (8 * e)) (λ e. flag classes (8 * e + 1)) (t .fit)
+        with-done events (relationsTold numbers) (eqb firm 1) (relationFrom numbers) (λ e. flag classes (8 * e)) (λ e. flag classes (8 * e + 1)) (t .fit)
         (t .relation-done)
 
     -- a relation in its five numbers
     pub numbers-again : (k : ℕ) → k < relationsTold numbers
-        → numbersFrom (relationOf (tableFrom events classes numbers) k) ≡ take 5 (drop (5 * k) numbers)
+        → numbersFrom (relationOf (tableFrom events firm classes numbers) k) ≡ take 5 (drop (5 * k) numbers)
     unfolding tableFrom relationFrom
     numbers-again k l =
         let here = drop (5 * k) numbers in
         let long : 5 ≤ length here = rw length-drop (omega (arith, t .five-each)) in
         let number : (i : ℕ) → numberIn numbers k i ≡ getD here i 0 = λ i. sym (getD-drop (5 * k) numbers i 0) in
         ap (λ (r : Relation). numbersFrom r)
-        (relation-with events (relationsTold numbers) (relationFrom numbers) (λ e. flag classes (8 * e)) (λ e. flag classes (8 * e + 1)) k l)
+        (relation-with events (relationsTold numbers) (eqb firm 1) (relationFrom numbers) (λ e. flag classes (8 * e)) (λ e. flag classes (8 * e + 1)) k l)
         ∙ rw (flag-bit (numberIn numbers k 3) (t .bounded-bit k l), number 0, number 1, number 2, number 3, number 4) (first-five here long)
 
     -- a class in its byte
-    pub class-told : (e : ℕ) → e < events → getD classes e 0 < 256 → classByte (tableFrom events classes numbers) e ≡ getD classes e 0
+    pub class-told : (e : ℕ) → e < events → getD classes e 0 < 256 → classByte (tableFrom events firm classes numbers) e ≡ getD classes e 0
     unfolding tableFrom
     class-told e l small =
         ap₂ (λ (a b : Bool). bit a ▸ 1 ∶ bit b ▸ 6 ∶ 0)
@@ -105,11 +108,17 @@ module _ (events : ℕ) (classes numbers : List ℕ) where
         ∙ class-again classes (8 * e) (t .class-clear e l)
         ∙ byte-field classes e small
 
+    -- firm in its number
+    pub firm-again : bit (tableFrom events firm classes numbers .firm) ≡ firm
+    unfolding tableFrom
+    firm-again = flag-bit firm (t .firm-bit)
+
     -- so they tell the table
-    pub told-tells : ((i : ℕ) → getD classes i 0 < 256) → Tells classes numbers (tableFrom events classes numbers)
+    pub told-tells : ((i : ℕ) → getD classes i 0 < 256) → Tells firm classes numbers (tableFrom events firm classes numbers)
     unfolding tableFrom
     told-tells bytes =
         record {
+          firm-told = sym firm-again;
           class-each = t .class-each;
           class-told = λ e l. sym (class-told e l (bytes e));
           five-each = t .five-each;
@@ -122,7 +131,7 @@ module _ (image : List ℕ) (t : Table) (read : readTable image ≡ record { num
   unfolding tableOf
   table-read = ap (λ (a : TableAnswer). a .table) read
 
-  number-read : readTable image .number ≡ 0
+  pub number-read : readTable image .number ≡ 0
   number-read = ap (λ (a : TableAnswer). a .number) read
 
   pub relation-number-told : (k room : ℕ) → k < t .count → 5 ≤ room → relationToldNumber image k room ≡ 0
@@ -139,7 +148,7 @@ module _ (image : List ℕ) (t : Table) (read : readTable image ≡ record { num
   class-number-told e l = rw (number-read, table-read, lt-ltb e (t .events) l)
 
 -- numbers that tell a table: where it can be written, building from them is writing it
-module _ (classes numbers : List ℕ) (t : Table) (tells : Tells classes numbers t) where
+module _ (firm : ℕ) (classes numbers : List ℕ) (t : Table) (tells : Tells firm classes numbers t) where
   count-told : relationsTold numbers ≡ t .count
   count-told = omega (arith, tells .five-each)
 
@@ -166,11 +175,13 @@ module _ (classes numbers : List ℕ) (t : Table) (tells : Tells classes numbers
         bit-flag (relationOf t k .bounded),
       )
 
-  table-told : tableFrom (t .events) classes numbers ≡ unusedEmpty t
+  table-told : tableFrom (t .events) firm classes numbers ≡ unusedEmpty t
   unfolding tableFrom unusedEmpty
   table-told =
       rw (
         count-told,
+        tells .firm-told,
+        bit-flag (t .firm),
         places-same emptyRelation (relationFrom numbers) (relationOf t) (t .count) relation-of,
         set-same-test (λ e. flag classes (8 * e)) (isControllable t) (t .events) (λ e l. class-of e l .0),
         set-same-test (λ e. flag classes (8 * e + 1)) (isCausable t) (t .events) (λ e l. class-of e l .1),
@@ -182,7 +193,7 @@ module _ (classes numbers : List ℕ) (t : Table) (tells : Tells classes numbers
       let small : numberIn numbers k 3 ≤ 1 = omega (arith, number-of k 3 l (lit< tt), bit-lt (relationOf t k .bounded)) in
       rw (relation-of k l, judged, le-ltb 1 (numberIn numbers k 3) small)
 
-  pub tells-number : (room : ℕ) → writeTableNumber t room ≡ 0 → buildNumber (t .events) classes numbers room ≡ 0
+  pub tells-number : (room : ℕ) → writeTableNumber t room ≡ 0 → buildNumber (t .events) firm classes numbers room ≡ 0
   unfolding writeTableNumber tableNumber buildNumber
   tells-number room h =
       let n = t .events in
@@ -190,6 +201,7 @@ module _ (classes numbers : List ℕ) (t : Table) (tells : Tells classes numbers
       let fits = eventsFit n && relationsFit (t .count) in
       let q = both-done (3 if not fits) _ (p .0) in
       rw (
+        le-ltb 1 firm (omega (arith, tells .firm-told, bit-lt (t .firm))),
         count-told,
         not-false fits (if-done 2 _ (q .0)),
         eq-eqb (length classes) n (tells .class-each),
@@ -201,6 +213,6 @@ module _ (classes numbers : List ℕ) (t : Table) (tells : Tells classes numbers
       )
 
   pub tells-bytes : (buffer : List ℕ) → writeTableNumber t (length buffer) ≡ 0 → unusedEmpty t ≡ t
-      → build (t .events) classes numbers buffer ≡ writeTable t buffer
+      → build (t .events) firm classes numbers buffer ≡ writeTable t buffer
   unfolding build writeTable
   tells-bytes buffer h empty = rw (tells-number (length buffer) h, h, count-told, table-told, empty)

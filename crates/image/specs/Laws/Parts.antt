@@ -75,7 +75,7 @@ two-put buffer first second at width wider room long a b =
     ∙ ap (λ (l : List ℕ). l ++ drop (at + width + wider) buffer) (append-assoc (take at buffer) first second)
 
 -- header, classes and relations, one put behind the other, are the table's image, and the rest is as it was
-pub table-put : (t : Table) (buffer : List ℕ) {word : ℕ} {first second whole : List ℕ} → word ≡ headerWord (t .events) (t .count)
+pub table-put : (t : Table) (buffer : List ℕ) {word : ℕ} {first second whole : List ℕ} → word ≡ headerWord (t .events) (t .count) (t .firm)
     → first ≡ take 0 buffer ++ bytesOf 4 word ++ drop 4 buffer
     → second ≡ take 4 first ++ pieces (λ e. bytesOf 1 (classByte t e)) 0 (t .events) ++ drop (4 + t .events) first
     → whole ≡ take (4 + t .events) second ++ pieces (placeImage t) 0 (t .count) ++ drop (tableLength (t .events) (t .count)) second

@@ -18,7 +18,7 @@ use Rattle.rules.specs.Holds.{emptyRelation, relationOf, isControllable, isCaus
 use Rattle.rules.specs.Fields.{field, _▸_, _∶_, bit, bytesOf}
 use Rattle.rules.specs.Pieces.{pieces}
 use Rattle.rules.specs.Judge.{eventsFit, relationsFit, relationNumber, tableNumber}
-use Rattle.rules.specs.Image.{eventsIn, relationsIn, headerSpare, classBit, classSpare, relationBit, relationAt, relationSpare, tableLength}
+use Rattle.rules.specs.Image.{eventsIn, relationsIn, firmIn, headerSpare, classBit, classSpare, relationBit, relationAt, relationSpare, tableLength}
 use Rattle.rules.specs.Image.{relationImageNumber, tableImageNumber, tableIn, readTable, headerImage, classByte, classImage, placeImage}
 use Rattle.rules.specs.Image.{tableImage, ImageHolds, unusedEmpty}
 use Rattle.rules.specs.Laws.Counting.{places-same}
@@ -36,12 +36,12 @@ use Rattle.image.specs.Laws.TableWords.{relation-back, header-again, cla
 
 -- The image of a table that an image can hold
 module _ (t : Table) (held : ImageHolds t) where
-  header-bytes : field (tableImage t) 0 32 ≡ headerWord (t .events) (t .count)
+  header-bytes : field (tableImage t) 0 32 ≡ headerWord (t .events) (t .count) (t .firm)
   header-bytes =
-      word-of-bytes (tableImage t) 0 4 (headerWord (t .events) (t .count)) byte
-      ∙ mod-eq-of-lt (header-fits (t .events) (t .count) (held .events-fit) (held .count-fits))
+      word-of-bytes (tableImage t) 0 4 (headerWord (t .events) (t .count) (t .firm)) byte
+      ∙ mod-eq-of-lt (header-fits (t .events) (t .count) (t .firm) (held .events-fit) (held .count-fits))
     where
-      byte : (i : ℕ) → i < 4 → getD (tableImage t) (0 + i) 0 ≡ getD (bytesOf 4 (headerWord (t .events) (t .count))) i 0
+      byte : (i : ℕ) → i < 4 → getD (tableImage t) (0 + i) 0 ≡ getD (bytesOf 4 (headerWord (t .events) (t .count) (t .firm))) i 0
       byte i l =
           let classes = pieces (classImage t) 0 (t .events) in
           let relations = pieces (placeImage t) 0 (t .count) in
@@ -49,8 +49,11 @@ module _ (t : Table) (held : ImageHolds t) where
           ∙ List·getD-append (headerImage t) (classes ++ relations) 0 i (rw (header-length t) l)
           ∙ ap (λ (s : List ℕ). getD s i 0) (header-word t)
 
-  header-read : (eventsIn (tableImage t) ≡ t .events) × (relationsIn (tableImage t) ≡ t .count) × (headerSpare (tableImage t) ≡ 0)
-  header-read = header-back (tableImage t) (t .events) (t .count) (held .count-fits) header-bytes
+  header-read : (eventsIn (tableImage t) ≡ t .events)
+      × (relationsIn (tableImage t) ≡ t .count)
+      × (firmIn (tableImage t) ≡ t .firm)
+      × (headerSpare (tableImage t) ≡ 0)
+  header-read = header-back (tableImage t) (t .events) (t .count) (t .firm) (held .count-fits) header-bytes
 
   class-read : (e : ℕ) → e < t .events
       → (isControllableIn (tableImage t) e ≡ isControllable t e) × (isCausableIn (tableImage t) e ≡ isCausable t e) × (classSpare (tableImage t) e ≡ 0)
@@ -81,7 +84,7 @@ module _ (t : Table) (held : ImageHolds t) where
       let long : 4 ≤ length image = omega (arith, table-image-length t) in
       rw (
         le-ltb (length image) 4 long,
-        h .2,
+        h .3,
         h .0,
         h .1,
         eq-eqb (length image) (tableLength (t .events) (t .count)) (table-image-length t),
@@ -99,6 +102,7 @@ module _ (t : Table) (held : ImageHolds t) where
       rw (
         h .0,
         h .1,
+        h .2,
         places-same emptyRelation (λ k. relationAt image (relationBit (t .events) k)) (relationOf t) (t .count) (λ k l. relation-read k l .0),
         set-same-test (isControllableIn image) (isControllable t) (t .events) (λ e l. class-read e l .0),
         set-same-test (isCausableIn image) (isCausable t) (t .events) (λ e l. class-read e l .1),
@@ -152,7 +156,7 @@ module _ (image : List ℕ) where
     pub table-in-done : tableNumber (tableIn image) ≡ 0
     unfolding tableIn
     table-in-done =
-        with-done (eventsIn image) (relationsIn image) (λ k. relationAt image (relationBit (eventsIn image) k)) (isControllableIn image)
+        with-done (eventsIn image) (relationsIn image) (firmIn image) (λ k. relationAt image (relationBit (eventsIn image) k)) (isControllableIn image)
         (isCausableIn image) (r .fit) (r .relation-done)
 
     pub table-image-back : ((i : ℕ) → getD image i 0 < 256) → tableImage (tableIn image) ≡ image
@@ -188,7 +192,7 @@ module _ (image : List ℕ) where
         relation k l =
             relation-word (relationOf t k)
             ∙ ap (λ (x : Relation). bytesOf 6 (wordOfRelation x))
-            (relation-with n count (λ j. relationAt image (relationBit n j)) (isControllableIn image) (isCausableIn image) k l)
+            (relation-with n count (firmIn image) (λ j. relationAt image (relationBit n j)) (isControllableIn image) (isCausableIn image) k l)
             ∙ ap (bytesOf 6) (relation-again image (relationBit n k) (r .relation-clear k l))
             ∙ bytes-of-word image bytes (4 + n + 6 * k) 6 (omega (arith, r .exact))
 
@@ -203,4 +207,5 @@ module _ (image : List ℕ) where
   pub table-in-unused : unusedEmpty (tableIn image) ≡ tableIn image
   unfolding tableIn
   table-in-unused =
-      with-unused (eventsIn image) (relationsIn image) (λ k. relationAt image (relationBit (eventsIn image) k)) (isControllableIn image) (isCausableIn image)
+      with-unused (eventsIn image) (relationsIn image) (firmIn image) (λ k. relationAt image (relationBit (eventsIn image) k)) (isControllableIn image)
+      (isCausableIn image)

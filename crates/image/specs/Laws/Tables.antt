@@ -5,6 +5,7 @@ use mathlib.Core.Bool.{true, false}
 use mathlib.Core.List.{List}
 use Prim.Native.Nat.{ℕ, zero, suc, _/_, _%_, _^_, _<_, _≤_}
 use borrow.Author.Tests.{lt-ltb, le-ltb, lt-leb, le-leb, eq-eqb, ne-eqb}
+use lib.Dec.{eqb}
 use lib.ListN.{length}
 use Rattle.rules.specs.declared.TableAnswer.{TableAnswer}
 use Rattle.rules.specs.Numbers.{firstOf}
@@ -12,7 +13,7 @@ use Rattle.rules.specs.EventSet.{setOf}
 use Rattle.rules.specs.Holds.{mostRelations, emptyTable}
 use Rattle.rules.specs.Fields.{field}
 use Rattle.rules.specs.Judge.{eventsFit}
-use Rattle.rules.specs.Image.{eventsIn, relationsIn, headerSpare, tableLength, tableImageNumber, tableIn, readTable}
+use Rattle.rules.specs.Image.{eventsIn, relationsIn, firmIn, headerSpare, tableLength, tableImageNumber, tableIn, readTable}
 use Rattle.rules.specs.Laws.Fields.{field-part, first-part, last-part}
 use Rattle.image.specs.Parts.{classNumber, isControllableIn, isCausableIn, relationsRead}
 
@@ -20,15 +21,18 @@ abbrev pub refusedWith : ℕ → TableAnswer
 refusedWith number = record { number = number; table = emptyTable }
 
 module _ (image : List ℕ) where
-  -- events 7, relations 9, spare 16
+  -- events 7, relations 9, firm 1, spare 15
   pub header-events : field image 0 32 / 2 ^ 25 % 2 ^ 7 ≡ eventsIn image
   header-events = sym (first-part image 0 7 25)
 
   pub header-relations : field image 0 32 / 2 ^ 16 % 2 ^ 9 ≡ relationsIn image
   header-relations = sym (field-part image 0 7 9 16)
 
-  pub header-spare : field image 0 32 % 2 ^ 16 ≡ headerSpare image
-  header-spare = sym (last-part image 0 16 16)
+  pub header-firm : eqb (field image 0 32 / 2 ^ 15 % 2) 1 ≡ firmIn image
+  header-firm = rw (field-part image 0 16 1 15)
+
+  pub header-spare : field image 0 32 % 2 ^ 15 ≡ headerSpare image
+  header-spare = sym (last-part image 0 17 15)
 
   pub ends-short : length image < 4 → refusedWith 1 ≡ readTable image
   unfolding readTable tableImageNumber
@@ -72,7 +76,7 @@ module _ (image : List ℕ) where
 
             pub ends-relation : firstOf (eventsIn image) (classNumber image) ≡ 0
                 → relationsRead image (eventsIn image) (relationsIn image) (setOf (eventsIn image) (isControllableIn image))
-                (setOf (eventsIn image) (isCausableIn image))
+                (setOf (eventsIn image) (isCausableIn image)) (firmIn image)
                 ≡ readTable image
             unfolding readTable tableImageNumber tableIn
             ends-relation e = rw (le-ltb (length image) 4 long, clear, fit, le-leb (relationsIn image) mostRelations few, eq-eqb (length image) _ exact, e)

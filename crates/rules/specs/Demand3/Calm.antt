@@ -4,27 +4,28 @@ use mathlib.Core.Path.{_≡_, refl, _∙_, ap, sym, subst}
 use mathlib.Core.Bool.{Bool, true, false, cond}
 use mathlib.Core.List.{List, [], _∷_, _++_}
 use mathlib.Core.Logic.{_⊎_, ⊎-elim, inl, inr}
-use Prim.Native.Nat.{ℕ, _<_, _-_}
+use Prim.Native.Nat.{ℕ, _<_, _≤_, _-_}
 use native.Mathlib.Omega.{arith}
 use lib.Dec.{eqb, leb}
-use borrow.Author.Tests.{eqb-true, eqb-false, eq-eqb}
+use borrow.Author.Tests.{eqb-true, eqb-false, eq-eqb, leb-true}
 use Rattle.rules.specs.declared.Table.{Table}
+use Rattle.rules.specs.declared.Record.{Record}
 use Rattle.rules.specs.declared.Marking.{Marking}
 use Rattle.rules.specs.declared.Step.{Step}
 use Rattle.rules.specs.Numbers.{_if_}
 use Rattle.rules.specs.Holds.{recordOf}
-use Rattle.rules.specs.Effect.{isPending, response, effect}
+use Rattle.rules.specs.Effect.{within, eventually, none, deadlineOf, isPending, response, effect}
 use Rattle.rules.specs.Time.{isDue, anyDue, time, plainTickNumber}
 use Rattle.rules.specs.Guard.{caused}
 use Rattle.rules.specs.Remedy.{effects}
 use Rattle.rules.specs.Trace.{reportKind, plainTickKind, wrongStep, stepNumber, stepped}
 use Rattle.rules.specs.History.{Act, executes, passes, after, passesIn, thenPass, actsOf, historyOf}
-use Rattle.rules.specs.Deadline.{Duty, Settles, executed, given-new, excluded, Met}
+use Rattle.rules.specs.Deadline.{Duty, noLater, Ends, executed, excluded, Settles, ended, given-new, Met}
 use Rattle.rules.specs.Laws.Tests.{decide, clash, join}
 use Rattle.rules.specs.Laws.Counting.{some-not}
 use Rattle.rules.specs.Laws.Numbers.{both-done, if-done}
 use Rattle.rules.specs.Demand3.Records.{due-is}
-use Rattle.rules.specs.Demand3.Facts.{effect-events, time-events, deadline-stays, time-pending, time-bounded, time-included, time-deadline}
+use Rattle.rules.specs.Demand3.Facts.{effect-events, time-events, deadline-stays, deadline-no-later, time-pending, time-bounded, time-included, time-deadline}
 use Rattle.rules.specs.Demand3.Invariant.{Static, Invariant, effect-keeps, time-keeps}
 use Rattle.rules.specs.Demand3.Guarded.{caused-calm}
 use Rattle.rules.specs.Demand3.Leading.{after-acts}
@@ -148,20 +149,57 @@ module _ (t : Table) (x : ℕ) (b : x < t .events) (Settled : Marking → ℕ �
               settles = w .settles;
             }
 
--- Today's rule, by which a response replaces a deadline: what is not executed, nor given a new deadline, nor left excluded, stays as it is.
+-- a record whose deadline is no later than one of so many ticks has a deadline too, of no more
+no-later-bounded : (r : Record) (d : ℕ) → noLater (deadlineOf r) (within d) ≡ true → (r .pending ≡ true) × (r .bounded ≡ true) × (r .deadline ≤ d)
+no-later-bounded r d = go (r .pending) (r .bounded)
+  where
+    go : (p b : Bool) → noLater (cond p (cond b (within (r .deadline)) eventually) none) (within d) ≡ true → (p ≡ true) × (b ≡ true) × (r .deadline ≤ d)
+    go true true h = (refl, refl, leb-true (r .deadline) d h)
+    go true false h = absurd (clash h refl)
+    go false b h = absurd (clash h refl)
+
+-- Over the choice of the rule: what is not executed, nor left excluded, nor given a new deadline in a table that is not firm, stays a duty within
+-- the same ticks. With no response it stays as it is, and in a firm table a response leaves it no later.
 pub settled-or-stays : (t : Table) (x : ℕ) → x < t .events → (m : Marking) (e d : ℕ) → m .events ≡ t .events → Duty m x d
     → Settles t x m e ⊎ Duty (effect t m e) x d
 settled-or-stays t x b m e d same duty =
-    go (decide (eqb x e)) (decide (isPending (response t e x))) (decide (recordOf (effect t m e) x .included))
+    go (decide (eqb x e)) (decide (recordOf (effect t m e) x .included)) (decide (t .firm)) (decide (isPending (response t e x)))
   where
+    here : x < m .events
+    here = subst (λ (n : ℕ). x < n) (sym same) b
+
     stays : (x ≡ e → ⊥) → isPending (response t e x) ≡ false → recordOf (effect t m e) x .included ≡ true → Duty (effect t m e) x d
     stays other unasked still =
-        let p = deadline-stays t m e x (subst (λ (n : ℕ). x < n) (sym same) b) other unasked in
+        let p = deadline-stays t m e x here other unasked in
         record { included = still; pending = p .0 ∙ duty .pending; bounded = p .1 ∙ duty .bounded; within = omega (arith, p .2, duty .within) }
 
-    go : (eqb x e ≡ true) ⊎ (eqb x e ≡ false) → (isPending (response t e x) ≡ true) ⊎ (isPending (response t e x) ≡ false)
-        → (recordOf (effect t m e) x .included ≡ true) ⊎ (recordOf (effect t m e) x .included ≡ false) → Settles t x m e ⊎ Duty (effect t m e) x d
-    go (inl p) q r = inl (executed (eqb-true x e p))
-    go (inr p) (inl q) r = inl (given-new q)
-    go (inr p) (inr q) (inl r) = inr (stays (eqb-false x e p) q r)
-    go (inr p) (inr q) (inr r) = inl (excluded r)
+    nearer : t .firm ≡ true → (x ≡ e → ⊥) → recordOf (effect t m e) x .included ≡ true → Duty (effect t m e) x d
+    nearer firm other still =
+        let out = deadline-no-later t m e x here firm other (duty .pending) in
+        let p = no-later-bounded (recordOf (effect t m e) x) (recordOf m x .deadline) (rw (duty .pending, duty .bounded) at out) in
+        record { included = still; pending = p .0; bounded = p .1; within = omega (arith, p .2, duty .within) }
+
+    go : (eqb x e ≡ true) ⊎ (eqb x e ≡ false) → (recordOf (effect t m e) x .included ≡ true) ⊎ (recordOf (effect t m e) x .included ≡ false)
+        → (t .firm ≡ true) ⊎ (t .firm ≡ false) → (isPending (response t e x) ≡ true) ⊎ (isPending (response t e x) ≡ false)
+        → Settles t x m e ⊎ Duty (effect t m e) x d
+    go (inl p) r f q = inl (ended (executed (eqb-true x e p)))
+    go (inr p) (inr r) f q = inl (ended (excluded r))
+    go (inr p) (inl r) (inl f) q = inr (nearer f (eqb-false x e p) r)
+    go (inr p) (inl r) (inr f) (inl q) = inl (given-new f q)
+    go (inr p) (inl r) (inr f) (inr q) = inr (stays (eqb-false x e p) q r)
+
+-- in a firm table nothing else settles a deadline than what ends the duty
+firm-ends : (t : Table) (x : ℕ) → t .firm ≡ true → (m : Marking) (e : ℕ) → Settles t x m e → Ends t x m e
+firm-ends t x firm m e (ended h) = h
+firm-ends t x firm m e (given-new loose h) = absurd (clash firm loose)
+
+pub firm-met : {t : Table} {x : ℕ} → t .firm ≡ true → {m : Marking} {d : ℕ} {acts : List Act} → Met t (Settles t x) m d acts → Met t (Ends t x) m d acts
+firm-met {t = t} {x = x} firm {m = m} w =
+    record {
+      before = w .before;
+      event = w .event;
+      behind = w .behind;
+      among = w .among;
+      in-time = w .in-time;
+      settles = firm-ends t x firm (after t m (w .before)) (w .event) (w .settles);
+    }

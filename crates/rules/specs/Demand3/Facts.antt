@@ -15,8 +15,9 @@ use Rattle.rules.specs.declared.Marking.{Marking}
 use Rattle.rules.specs.Counting.{some, eachBelow}
 use Rattle.rules.specs.Holds.{countLimit, mostEvents, isResponse, isInclusion, isExclusion, emptyRecord, relationOf, recordOf, withRecords}
 use Rattle.rules.specs.Judge.{eventsFit, tableNumber, recordFits, recordNumber, markingNumber, markingNumberFor, judged}
-use Rattle.rules.specs.Effect.{Deadline, within, eventually, isPending, isBounded, leads, excludes, includes, response, effectAt, effect}
+use Rattle.rules.specs.Effect.{Deadline, within, eventually, deadlineOf, isPending, isBounded, leads, excludes, includes, response, effectAt, effect}
 use Rattle.rules.specs.Time.{later, time}
+use Rattle.rules.specs.Deadline.{noLater}
 use Rattle.rules.specs.Laws.Tests.{clash, denied, both, join}
 use Rattle.rules.specs.Laws.Counting.{some-where, length-each-below, each-below-changed}
 use Rattle.rules.specs.Laws.Numbers.{if-kept, both-done, first-done}
@@ -24,7 +25,7 @@ use Rattle.rules.specs.Shapes.Good.{GoodTable}
 use Rattle.rules.specs.Laws.Judge.{good}
 use Rattle.rules.specs.Demand3.Response.{asked, Responds, response-gives}
 use Rattle.rules.specs.Demand3.Records.{underDeadline, ranOut, at-included, at-happened, at-pending, at-under, at-out}
-use Rattle.rules.specs.Demand3.Records.{at-count, at-fits, at-undisturbed, later-fits}
+use Rattle.rules.specs.Demand3.Records.{at-count, at-fits, at-undisturbed, at-no-later, later-fits}
 
 -- a relation of some kind leads from e to x
 pub record Linked (t : Table) (kind : Relation → Bool) (e x : ℕ) : Type 0 where
@@ -147,6 +148,13 @@ module _ (t : Table) (m : Marking) (e x : ℕ) (b : x < m .events) where
   deadline-stays other unasked =
       at-effect (λ r s. (s .pending ≡ r .pending) × (s .bounded ≡ r .bounded) × (s .deadline ≡ r .deadline)) (refl, refl, refl)
       (λ r. at-undisturbed t e x r other unasked)
+
+  -- in a firm table, and x another event, its deadline does not move out
+  pub deadline-no-later : t .firm ≡ true → (x ≡ e → ⊥) → recordOf m x .pending ≡ true
+      → noLater (deadlineOf (recordOf (effect t m e) x)) (deadlineOf (recordOf m x)) ≡ true
+  deadline-no-later firm other =
+      at-effect (λ r s. r .pending ≡ true → noLater (deadlineOf s) (deadlineOf r) ≡ true) (λ h. absurd (clash h refl))
+      (λ r. at-no-later t e x r firm other)
 
   -- a record that fits still does
   pub effect-fits : GoodTable t → recordFits (recordOf m x) ≡ true → recordFits (recordOf (effect t m e) x) ≡ true

@@ -15,10 +15,11 @@ use Rattle.rules.specs.Judge.{stateFits, countFits, recordFits}
 use Rattle.rules.specs.Effect.{Deadline, none, eventually, within, deadlineOf, isPending, isBounded, ticksOf, withDeadline, meets}
 use Rattle.rules.specs.Effect.{excludes, includes, response, executed, withInclusion, effectAt}
 use Rattle.rules.specs.Time.{isDue, later}
+use Rattle.rules.specs.Deadline.{noLater}
 use Rattle.rules.specs.Laws.Tests.{decide, clash, both, join}
 use Rattle.rules.specs.Laws.Fit.{fits-parts, fits-both, counted-fits}
 use Rattle.rules.specs.Shapes.Good.{GoodTable}
-use Rattle.rules.specs.Demand3.Response.{Picks, meets-picks, isZero, response-timely}
+use Rattle.rules.specs.Demand3.Response.{Picks, meeting, isZero, response-timely}
 
 -- pending with a deadline, included or not; and with a deadline that has run out
 abbrev pub underDeadline : Record → Bool
@@ -200,12 +201,12 @@ module _ (t : Table) (e x : ℕ) where
   pub at-included : (r : Record) → effectAt t e x r .included ≡ cond (includes t e x) true (cond (excludes t e x) false (r .included))
   unfolding effectAt withInclusion
   at-included r =
-      responded-same meets meets-picks (response t e x) (withInclusion t e x (own r)) .0
+      responded-same (meets (t .firm)) (meeting (t .firm) .picks) (response t e x) (withInclusion t e x (own r)) .0
       ∙ ap (λ (i : Bool). cond (includes t e x) true (cond (excludes t e x) false i)) (own-included r)
 
   pub at-happened : (r : Record) → effectAt t e x r .happened ≡ cond (eqb x e) true (r .happened)
   unfolding effectAt withInclusion executed
-  at-happened r = responded-same meets meets-picks (response t e x) (withInclusion t e x (own r)) .1 ∙ go (eqb x e)
+  at-happened r = responded-same (meets (t .firm)) (meeting (t .firm) .picks) (response t e x) (withInclusion t e x (own r)) .1 ∙ go (eqb x e)
     where
       go : (b : Bool) → cond b (executed r) r .happened ≡ cond b true (r .happened)
       go true = refl
@@ -213,7 +214,7 @@ module _ (t : Table) (e x : ℕ) where
 
   pub at-age : (r : Record) → effectAt t e x r .age ≡ cond (eqb x e) 0 (r .age)
   unfolding effectAt withInclusion executed
-  at-age r = responded-same meets meets-picks (response t e x) (withInclusion t e x (own r)) .2 ∙ go (eqb x e)
+  at-age r = responded-same (meets (t .firm)) (meeting (t .firm) .picks) (response t e x) (withInclusion t e x (own r)) .2 ∙ go (eqb x e)
     where
       go : (b : Bool) → cond b (executed r) r .age ≡ cond b 0 (r .age)
       go true = refl
@@ -222,7 +223,7 @@ module _ (t : Table) (e x : ℕ) where
   -- an execution of x counts, and nothing else does
   pub at-count : (r : Record) → effectAt t e x r .count ≡ cond (eqb x e) (min (r .count + 1) countLimit) (r .count)
   unfolding effectAt withInclusion executed
-  at-count r = responded-same meets meets-picks (response t e x) (withInclusion t e x (own r)) .3 ∙ go (eqb x e)
+  at-count r = responded-same (meets (t .firm)) (meeting (t .firm) .picks) (response t e x) (withInclusion t e x (own r)) .3 ∙ go (eqb x e)
     where
       go : (b : Bool) → cond b (executed r) r .count ≡ cond b (min (r .count + 1) countLimit) (r .count)
       go true = refl
@@ -235,7 +236,7 @@ module _ (t : Table) (e x : ℕ) where
       ⊎-elim
       (λ p. inl (own-seen a r (sym (a .apart t e x (own r)) ∙ p)))
       (λ p. inr p)
-      (responded-seen meets meets-picks a (response t e x) (withInclusion t e x (own r)) h)
+      (responded-seen (meets (t .firm)) (meeting (t .firm) .picks) a (response t e x) (withInclusion t e x (own r)) h)
 
   -- read for each
   pub at-pending : (r : Record) → effectAt t e x r .pending ≡ true → ((r .pending ≡ true) × (x ≡ e → ⊥)) ⊎ (isPending (response t e x) ≡ true)
@@ -251,15 +252,16 @@ module _ (t : Table) (e x : ℕ) where
   unfolding runOut effectAt
   at-out good r h = ⊎-elim (λ p. p) (λ p. absurd (clash (p .1) (response-timely t good e x .0))) (at-seen runOut r h)
 
-  -- today's rule: a target of responses gets the smallest of them, whatever it had
-  pub at-response : (r : Record) → isPending (response t e x) ≡ true → deadlineOf (effectAt t e x r) ≡ response t e x
-  unfolding effectAt
-  at-response r h = responded-deadline meets meets-picks (response t e x) (withInclusion t e x (own r)) h
+  -- a target of responses gets what the rule makes of the deadline that it has once e is cleared and the smallest of theirs
+  pub at-response : (r : Record) → isPending (response t e x) ≡ true
+      → deadlineOf (effectAt t e x r) ≡ meets (t .firm) (deadlineOf (own r)) (response t e x)
+  unfolding effectAt withInclusion
+  at-response r h = responded-deadline (meets (t .firm)) (meeting (t .firm) .picks) (response t e x) (withInclusion t e x (own r)) h
 
   at-state-fits : GoodTable t → (r : Record) → stateFits r ≡ true → stateFits (effectAt t e x r) ≡ true
   unfolding effectAt withInclusion executed stateFits
   at-state-fits good r h =
-      responded-fits meets meets-picks (response t e x) (withInclusion t e x (own r)) (response-timely t good e x .1) (go (eqb x e))
+      responded-fits (meets (t .firm)) (meeting (t .firm) .picks) (response t e x) (withInclusion t e x (own r)) (response-timely t good e x .1) (go (eqb x e))
     where
       go : (b : Bool) → stateFits (withInclusion t e x (cond b (executed r) r)) ≡ true
       go true = refl
@@ -282,6 +284,26 @@ module _ (t : Table) (e x : ℕ) where
       → (effectAt t e x r .pending ≡ r .pending) × (effectAt t e x r .bounded ≡ r .bounded) × (effectAt t e x r .deadline ≡ r .deadline)
   unfolding effectAt withInclusion
   at-undisturbed r other unasked = rw (unasked, ne-eqb x e other) (refl, refl, refl)
+
+  -- in a firm table, and x another event, a deadline does not move out
+  pub at-no-later : (r : Record) → t .firm ≡ true → (x ≡ e → ⊥) → r .pending ≡ true → noLater (deadlineOf (effectAt t e x r)) (deadlineOf r) ≡ true
+  unfolding pendingly
+  at-no-later r firm other h = go (decide (isPending (response t e x)))
+    where
+      pending : isPending (deadlineOf r) ≡ true
+      pending = pendingly .of-it r ∙ h
+
+      same : (d : Deadline) → isPending d ≡ true → noLater d d ≡ true
+      same none p = p
+      same eventually p = refl
+      same (within d) p = le-leb d d (omega arith)
+
+      go : (isPending (response t e x) ≡ true) ⊎ (isPending (response t e x) ≡ false) → noLater (deadlineOf (effectAt t e x r)) (deadlineOf r) ≡ true
+      go (inl asked) =
+          rw (at-response r asked, ne-eqb x e other) (meeting (t .firm) .no-later firm (deadlineOf r) (response t e x) pending)
+      go (inr unasked) =
+          let p = at-undisturbed r other unasked in
+          rw (p .0, p .1, p .2) (same (deadlineOf r) pending)
 
 -- one tick
 pub later-fits : (r : Record) → recordFits r ≡ true → recordFits (later r) ≡ true

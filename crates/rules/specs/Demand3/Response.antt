@@ -1,19 +1,20 @@
--- How a response meets an old deadline, as a parameter of the argument. Of the rule one fact is asked: what comes of two deadlines is one of
--- the two. Both rules have it, the one by which the new deadline replaces the old and the one that keeps the smaller. And where the smallest
--- of an event's responses comes from. Assumes nothing.
+-- How a response meets an old deadline, as a parameter of the argument: what is asked of the rule, and that both have it, the one by which the
+-- new deadline replaces the old and the one that takes the smaller. And where the smallest of an event's responses comes from. Assumes
+-- nothing.
 use mathlib.Core.Path.{_≡_, refl, ap, sym, subst}
 use mathlib.Core.Bool.{Bool, true, false, _&&_, cond}
 use mathlib.Core.Logic.{_⊎_, ⊎-elim, inl, inr}
 use Prim.Native.Nat.{ℕ, zero, suc, _<_, _≤_, min}
-use native.Mathlib.Nat.{min-eq-left, min-eq-right, le-of-lt}
+use native.Mathlib.Nat.{min-eq-left, min-eq-right, min-le-left, le-of-lt}
 use native.Mathlib.Omega.{arith}
 use lib.Dec.{eqb, leb}
-use borrow.Author.Tests.{eqb-true, ne-eqb, leb-true, leb-false}
+use borrow.Author.Tests.{eqb-true, ne-eqb, leb-true, leb-false, le-leb}
 use Rattle.rules.specs.declared.Relation.{Relation}
 use Rattle.rules.specs.declared.Table.{Table}
 use Rattle.rules.specs.Holds.{limit, isCondition, isResponse, relationOf}
 use Rattle.rules.specs.Judge.{timeFits}
 use Rattle.rules.specs.Effect.{Deadline, none, eventually, within, smaller, isPending, ticksOf, meets, leads, given, smallest, response}
+use Rattle.rules.specs.Deadline.{noLater}
 use Rattle.rules.specs.Laws.Tests.{clash, both}
 use Rattle.rules.specs.Shapes.Good.{GoodTable}
 
@@ -43,9 +44,24 @@ smaller-picks (within c) (within d) = go (leb c d) refl
     go true e = inl (ap within (min-eq-left (leb-true c d e)))
     go false e = inr (ap within (min-eq-right (le-of-lt (leb-false c d e))))
 
--- today's rule
-pub meets-picks : Picks meets
-meets-picks = replacing-picks
+pub smaller-no-later : (old new : Deadline) → isPending old ≡ true → noLater (smaller old new) old ≡ true
+smaller-no-later none new h = absurd (clash h refl)
+smaller-no-later eventually none h = refl
+smaller-no-later eventually eventually h = refl
+smaller-no-later eventually (within d) h = refl
+smaller-no-later (within c) none h = le-leb c c (omega arith)
+smaller-no-later (within c) eventually h = le-leb c c (omega arith)
+smaller-no-later (within c) (within d) h = le-leb (min c d) c (min-le-left c d)
+
+-- what is asked of the rule: it picks, and in a firm table it picks no later one than the old
+pub record Meeting (firm : Bool) (rule : Deadline → Deadline → Deadline) : Type 0 where
+  pub picks : Picks rule
+  pub no-later : firm ≡ true → (old new : Deadline) → isPending old ≡ true → noLater (rule old new) old ≡ true
+
+-- both rules have it
+pub meeting : (firm : Bool) → Meeting firm (meets firm)
+meeting true = record { picks = smaller-picks; no-later = λ firm. smaller-no-later }
+meeting false = record { picks = replacing-picks; no-later = λ firm old new h. absurd (clash firm refl) }
 
 -- what a response gives: so many ticks, or eventually
 abbrev pub asked : Relation → Deadline

@@ -13,8 +13,9 @@ use Rattle.rules.specs.declared.Step.{Step}
 use Rattle.rules.specs.declared.CheckAnswer.the-variants.{Accepts}
 use Rattle.rules.specs.Numbers.{_if_, _else_}
 use Rattle.rules.specs.EventSet.{has}
-use Rattle.rules.specs.Holds.{isControllable}
+use Rattle.rules.specs.Holds.{isControllable, recordOf}
 use Rattle.rules.specs.Enabled.{isEnabled}
+use Rattle.rules.specs.Effect.{deadlineOf, effect}
 use Rattle.rules.specs.Ask.{reportNumber, report}
 use Rattle.rules.specs.Closure.{closure}
 use Rattle.rules.specs.Check.{check}
@@ -22,12 +23,13 @@ use Rattle.rules.specs.Guard.{guardedTick}
 use Rattle.rules.specs.Trace.{endOf}
 use Rattle.rules.specs.Promised.{Promise}
 use Rattle.rules.specs.History.{Act, after, passesIn, historyOf}
-use Rattle.rules.specs.Deadline.{Duty, Settles, Met}
+use Rattle.rules.specs.Deadline.{Duty, noLater, Ends, Settles, Met}
 use Rattle.rules.specs.Laws.Judge.{good}
+use Rattle.rules.specs.Demand3.Facts.{deadline-no-later}
 use Rattle.rules.specs.Demand3.Invariant.{Static, Invariant, always-reported}
 use Rattle.rules.specs.Demand3.Accepts.{closure-static, closure-invariant, closure-least, suffices, check-parts, check-accepts}
 use Rattle.rules.specs.Demand3.Leading.{after-history}
-use Rattle.rules.specs.Demand3.Calm.{Calm, calm-rest, kept, history-calm, deadline-met, settled-or-stays}
+use Rattle.rules.specs.Demand3.Calm.{Calm, calm-rest, kept, history-calm, deadline-met, settled-or-stays, firm-met}
 use Rattle.rules.specs.Demand3.Keeping.{promised}
 
 module _ (t : Table) (m : Marking) (accepted : check t m ≡ Accepts) where
@@ -56,14 +58,19 @@ module _ (t : Table) (m : Marking) (accepted : check t m ≡ Accepts) where
   pub guarded-tick : (steps : List Step) → Promise t (endOf t m steps)
   guarded-tick steps = promised t (endOf t m steps) (still-accepts steps)
 
-  -- 3. An included event that is to be done within d ticks, at any point of the history, is executed, given a new deadline or excluded before the
-  -- (d + 1)th pass of time from then.
+  -- 3. An included event that is to be done within d ticks, at any point of the history, is executed, excluded or, in a table that is not firm,
+  -- given a new deadline before the (d + 1)th pass of time from then.
   pub deadline-kept : (steps : List Step) (before rest : List Act) → historyOf t m steps ≡ before ++ rest
       → (x d : ℕ) → x < t .events → Duty (after t m before) x d → d < passesIn rest → Met t (Settles t x) (after t m before) d rest
   deadline-kept steps before rest split x d b duty l =
       let calm = calm-rest t m before rest (subst (Calm t m) split (history-calm t (closure t m) static m start steps)) in
       let same = good t (after t m before) (kept t (closure t m) static m start before .judged-done) .marking-good .same-events in
       deadline-met t x b (Settles t x) (settled-or-stays t x b) calm same d duty l
+
+  -- In a firm table: it is executed or excluded before then.
+  pub deadline-kept-firm : t .firm ≡ true → (steps : List Step) (before rest : List Act) → historyOf t m steps ≡ before ++ rest
+      → (x d : ℕ) → x < t .events → Duty (after t m before) x d → d < passesIn rest → Met t (Ends t x) (after t m before) d rest
+  deadline-kept-firm firm steps before rest split x d b duty l = firm-met firm (deadline-kept steps before rest split x d b duty l)
 
   -- 4. Beyond the demand. A report of an uncontrollable event is always granted, so no report is answered 10 ..
   pub report-granted : (steps : List Step) (e : ℕ) → e < t .events → isControllable t e ≡ false → report t (endOf t m steps) e .number ≡ 0
@@ -85,3 +92,9 @@ module _ (t : Table) (m : Marking) (accepted : check t m ≡ Accepts) where
   -- .. and the closure never grows, whatever is executed and whenever time passes.
   pub closure-never-grows : (acts : List Act) (x : ℕ) → has (closure t (after t m acts)) x ≡ true → has (closure t m) x ≡ true
   closure-never-grows acts = closure-least t (closure t m) static (after t m acts) (kept t (closure t m) static m start acts)
+
+-- In a firm table no execution of another event moves a pending deadline out, at any marking, asked of the check or not; the event may be included or
+-- not, and so may the other be enabled or not.
+pub firm-never-later : (t : Table) → t .firm ≡ true → (m : Marking) (e x : ℕ) → x < m .events → (x ≡ e → ⊥) → recordOf m x .pending ≡ true
+    → noLater (deadlineOf (recordOf (effect t m e) x)) (deadlineOf (recordOf m x)) ≡ true
+firm-never-later t firm m e x b other h = deadline-no-later t m e x b firm other h

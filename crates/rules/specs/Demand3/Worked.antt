@@ -1,12 +1,13 @@
 -- A history, computed: the shop's table, a leak, three guarded ticks, a plain tick that is refused, and a guarded tick that causes isolate,
 -- drain and flush. And the deadline sentence with numbers: the leak gives flush a deadline of 3 ticks, four guarded ticks follow, and what
--- settles the deadline is the execution of flush, with three passes of time before it. Assumes nothing.
+-- settles the deadline is the execution of flush, with three passes of time before it. And in a firm table a repeated leak. Assumes nothing.
 use mathlib.Core.Path.{_≡_, refl, _∙_, ap, sym, subst}
 use mathlib.Core.List.{List, [], _∷_, _++_}
 use Prim.Native.Nat.{ℕ, zero, suc, _<_}
 use native.Mathlib.Omega.{arith}
 use lib.ListN.{length, getD, take}
 use lib.Seq.{getD-append-seam, take-append-seam}
+use Rattle.rules.specs.declared.Table.{Table}
 use Rattle.rules.specs.declared.Marking.{Marking}
 use Rattle.rules.specs.declared.Step.{Step}
 use Rattle.rules.specs.declared.CheckAnswer.the-variants.{Accepts}
@@ -24,9 +25,9 @@ use Rattle.rules.specs.Guard.{holdsBack, needed, ready, orderOf, taken, 
 use Rattle.rules.specs.Trace.{stepNumber, stepDone, stepped}
 use Rattle.rules.specs.Shop as shop
 use Rattle.rules.specs.History.{Act, executes, passes, after, passesIn, thenPass, actsOf, historyOf}
-use Rattle.rules.specs.Deadline.{Duty, Settles, executed as settled-executed, given-new as settled-new, excluded as settled-excluded, Met}
+use Rattle.rules.specs.Deadline.{Duty, Ends, executed as ends-executed, excluded as ends-excluded, Settles, ended, given-new, Met}
 use Rattle.rules.specs.Laws.Tests.{clash}
-use Rattle.rules.specs.Demand3.Statements.{deadline-kept}
+use Rattle.rules.specs.Demand3.Statements.{deadline-kept, deadline-kept-firm}
 
 pub leak-history : historyOf shop.P shop.start (shop.leakThenThree ++ (shop.plain ∷ shop.guarded ∷ []))
     ≡ executes 0 ∷ passes ∷ passes ∷ passes ∷ executes 2 ∷ executes 4 ∷ executes 1 ∷ passes ∷ []
@@ -70,15 +71,15 @@ four-passes = omega arith
 -- neither isolate nor drain settles it
 isolate-not : Settles shop.P 1 (after shop.P leaked (take 3 afterLeak)) 2 → ⊥
 unfolding after time later effect effectAt executed withInclusion withDeadline excludes includes given smallest some belowFrom
-isolate-not (settled-executed e) = omega (arith, e)
-isolate-not (settled-new h) = clash h refl
-isolate-not (settled-excluded h) = clash refl h
+isolate-not (ended (ends-executed e)) = omega (arith, e)
+isolate-not (given-new loose h) = clash h refl
+isolate-not (ended (ends-excluded h)) = clash refl h
 
 drain-not : Settles shop.P 1 (after shop.P leaked (take 4 afterLeak)) 4 → ⊥
 unfolding after time later effect effectAt executed withInclusion withDeadline excludes includes given smallest some belowFrom
-drain-not (settled-executed e) = omega (arith, e)
-drain-not (settled-new h) = clash h refl
-drain-not (settled-excluded h) = clash refl h
+drain-not (ended (ends-executed e)) = omega (arith, e)
+drain-not (given-new loose h) = clash h refl
+drain-not (ended (ends-excluded h)) = clash refl h
 
 -- 0 for a pass of time, and past the number of the event for an execution
 actNumber : Act → ℕ
@@ -117,3 +118,35 @@ flush-settles =
     let found = only-flush (flush-met .event) (length before) at
     (subst (λ (l : List Act). Settles shop.P 1 (after shop.P leaked l) (flush-met .event)) (sym first) (flush-met .settles)) in
     (found .0, ap passesIn (sym first) ∙ found .1)
+
+-- In a firm table: a leak, two guarded ticks and a leak again leave flush with one tick; two guarded ticks follow
+abbrev firmP : Table
+firmP = shop.firmly shop.P
+
+abbrev untilRepeat : List Act
+untilRepeat = executes 0 ∷ passes ∷ passes ∷ executes 0 ∷ []
+
+firm-accepted : check firmP shop.start ≡ Accepts
+unfolding check judged tableNumber relationNumber timeFits markingNumberFor markingNumber stateFits countFits recordFits every some lowest howMany repeated firstOf has
+    setOf busy follows widened widenedFully closure unreportable uncausable waiting awaited onCycle reopening reviving verdict
+firm-accepted = refl
+
+firm-history : historyOf firmP shop.start (shop.leakTwice ++ (shop.guarded ∷ shop.guarded ∷ [])) ≡ untilRepeat ++ (passes ∷ executes 2 ∷ executes 4 ∷ executes 1 ∷ passes ∷ [])
+unfolding historyOf actsOf thenPass every some lowest howMany repeated belowFrom firstOf has setOf stops blocks isEnabled withDeadline excludes
+    includes given smallest executed withInclusion effectAt effect isDue anyDue dueSet later time plainTickNumber requestNumber reportNumber
+    busy follows widened widenedFully closure unreportable uncausable waiting awaited onCycle reopening reviving verdict holdsBack needed ready
+    orderOf taken takenAll executedOf caused guarded stepNumber stepDone stepped
+firm-history = refl
+
+firm-duty : Duty (after firmP shop.start untilRepeat) 1 1
+unfolding after time later effect effectAt executed withInclusion withDeadline excludes includes given smallest some belowFrom
+firm-duty = record { included = refl; pending = refl; bounded = refl; within = omega arith }
+
+two-passes : 1 < passesIn (passes ∷ executes 2 ∷ executes 4 ∷ executes 1 ∷ passes ∷ [])
+unfolding passesIn
+two-passes = omega arith
+
+-- .. of which flush is executed, or excluded, before the second passes
+pub firm-flush-met : Met firmP (Ends firmP 1) (after firmP shop.start (executes 0 ∷ passes ∷ passes ∷ executes 0 ∷ [])) 1
+    (passes ∷ executes 2 ∷ executes 4 ∷ executes 1 ∷ passes ∷ [])
+firm-flush-met = deadline-kept-firm firmP shop.start firm-accepted refl (shop.leakTwice ++ (shop.guarded ∷ shop.guarded ∷ [])) untilRepeat _ firm-history 1 1 (omega arith) firm-duty two-passes

@@ -110,9 +110,9 @@ module _ (P : ℕ → Type 0) (each : (number : ℕ) → given number ≡ true �
   unfolding fieldsNumber
   fields-given table marking event room = search (if-given, else-given, images-given) depth 8
 
-  build-given : (events : ℕ) (classes numbers : List ℕ) (room : ℕ) → P (buildNumber events classes numbers room)
+  build-given : (events firm : ℕ) (classes numbers : List ℕ) (room : ℕ) → P (buildNumber events firm classes numbers room)
   unfolding buildNumber numbersNumber
-  build-given events classes numbers room = search (if-given, else-given, first-given, relation-given) depth 12
+  build-given events firm classes numbers room = search (if-given, else-given, first-given, relation-given) depth 13
 
   relation-told-given : (table : List ℕ) (relation room : ℕ) → P (relationToldNumber table relation room)
   unfolding relationToldNumber readTable

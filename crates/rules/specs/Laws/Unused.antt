@@ -47,6 +47,7 @@ pub any-relation : (t : Table) (k : ℕ) (r : Relation) → t .count ≤ k → S
   causable = t .causable;
   events = t .events;
   count = t .count;
+  firm = t .firm;
 })
 any-relation t k r past = record {
   same-events = refl;
@@ -54,6 +55,7 @@ any-relation t k r past = record {
   same-relation = λ j b. sym (getD-set-other (t .relations) k j r emptyRelation (λ e. omega arith));
   same-controllable = λ e b. refl;
   same-causable = λ e b. refl;
+  same-firm = refl;
 }
 
 pub any-record : (m : Marking) (e : ℕ) (r : Record) → m .events ≤ e → SameMarking m (withRecords m (set (m .records) e r))
@@ -74,7 +76,7 @@ module _ {t u : Table} (same : SameTable t u) where
   table-image-alike : tableImage t ≡ tableImage u
   unfolding headerImage classImage
   table-image-alike =
-      let header : headerImage t ≡ headerImage u = rw (same .same-events, same .same-count) in
+      let header : headerImage t ≡ headerImage u = rw (same .same-events, same .same-count, same .same-firm) in
       let classes =
       pieces-alike (classImage t) (classImage u) 0 (t .events)
       (λ e b. rw (same .same-controllable e (omega arith), same .same-causable e (omega arith)))

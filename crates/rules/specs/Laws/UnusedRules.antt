@@ -116,7 +116,7 @@ module _ {t u : Table} (same : SameTable t u) (e x : ℕ) where
 
   effect-at-alike : (r : Record) → effectAt t e x r ≡ effectAt u e x r
   unfolding effectAt withInclusion
-  effect-at-alike r = rw (response-alike, includes-alike, excludes-alike)
+  effect-at-alike r = rw (response-alike, includes-alike, excludes-alike, same .same-firm)
 
 pub effect-agrees : {t u : Table} {m n : Marking} → SameTable t u → SameMarking m n → (e : ℕ) → SameMarking (effect t m e) (effect u n e)
 unfolding effect

@@ -80,31 +80,11 @@ pub fn guarded_ticks() -> Vec<Case> {
 
 /// Over the hold within one trace: the last event twice by request, all events
 /// by a guarded tick, the last once more, and steps that execute nothing.
-fn traces() -> impl Iterator<Item = (Pair, Vec<Step>)> {
+pub fn traces() -> impl Iterator<Item = (Pair, Vec<Step>)> {
     let steps = [(0, 63), (0, 63), (3, 0), (1, 63), (2, 0), (0, 63), (9, 9)];
     let steps = steps.map(|(kind, event)| Step { kind, event });
     let starts = at_each_count(full::all_due).chain(at_each_count(full::quiet));
     starts.map(move |pair| (pair, steps.to_vec()))
-}
-
-pub fn run() -> Vec<Case> {
-    traces()
-        .map(|(pair, steps)| Case::Run {
-            pair,
-            answers: vec![0xA5; steps.len() + 1],
-            steps,
-        })
-        .collect()
-}
-
-pub fn run_bytes() -> Vec<Case> {
-    traces()
-        .map(|(pair, steps)| Case::RunBytes {
-            pair,
-            answers: vec![0xA5; steps.len() + 1],
-            steps: steps.iter().flat_map(|s| [s.kind, s.event]).collect(),
-        })
-        .collect()
 }
 
 /// Records without a count that differ in all else; a record that has not happened
@@ -206,12 +186,11 @@ mod tests {
 
     #[test]
     fn a_trace_goes_over_the_hold() {
-        for case in run() {
-            let Answer::Run { end, answers } = case.answer() else {
-                panic!("{} is another call", case.name());
-            };
+        for (pair, steps) in traces() {
+            let mut answers = [7; 7];
+            let end = second::run(&pair.table, &pair.marking, &steps, &mut answers);
             assert_eq!((end.number, answers[0], answers[6]), (0, 0, 15));
-            let start = case.pair().expect("of a pair").marking.records[63].count;
+            let start = pair.marking.records[63].count;
             let least = start.saturating_add(3);
             assert!(end.marking.records[63].count >= least);
         }

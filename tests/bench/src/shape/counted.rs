@@ -1,26 +1,11 @@
 //! What a case has to do with counts: at which one an event is executed, a count
 //! that disagrees with happened, and the old image that is carried over.
 
+use super::executed;
 use second::case::{Answer, Case, Pair};
 use second::{judge_marking, Marking, Record, OLD_RECORD_BYTES, RECORD_BYTES};
 
 const HOLD: u32 = u32::MAX;
-
-/// The events that a call has executed once.
-fn executed(case: &Case, answer: &Answer) -> Vec<usize> {
-    match (case, answer) {
-        (Case::Request { event, .. } | Case::Report { event, .. }, Answer::Marking(done))
-            if done.number == 0 =>
-        {
-            vec![*event]
-        }
-        (_, Answer::Guarded(done)) => {
-            let caused = &done.caused[..usize::from(done.count)];
-            caused.iter().map(|&event| event.into()).collect()
-        }
-        _ => Vec::new(),
-    }
-}
 
 /// The counts at which events are executed.
 pub fn of_executed(case: &Case, answer: &Answer, pair: &Pair) -> Vec<&'static str> {

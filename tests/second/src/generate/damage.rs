@@ -185,9 +185,13 @@ fn flip(image: &mut [u8], bit: usize) {
     }
 }
 
-/// Every spare bit of an image with these counts.
-fn spare_bits(events: usize, relations: usize) -> [Vec<usize>; 3] {
-    let header = (16..32).collect();
+/// The header's last 15 bits; the one before them is firm.
+fn spare_bit_of_header(rng: &mut Rng) -> usize {
+    rng.between(17, 31)
+}
+
+/// Every spare bit behind the header of an image with these counts.
+fn spare_bits(events: usize, relations: usize) -> [Vec<usize>; 2] {
     let mut classes = Vec::new();
     for event in 0..events {
         let start = 32 + 8 * event;
@@ -198,7 +202,7 @@ fn spare_bits(events: usize, relations: usize) -> [Vec<usize>; 3] {
         let end = 32 + 8 * events + 48 * (number + 1);
         of_relations.extend(end - 2..end);
     }
-    [header, classes, of_relations]
+    [classes, of_relations]
 }
 
 fn change_length(rng: &mut Rng, image: &mut Vec<u8>, unit: usize) {
@@ -214,17 +218,18 @@ fn change_length(rng: &mut Rng, image: &mut Vec<u8>, unit: usize) {
 
 /// One fault in the image of this table.
 pub fn damage_table_image(rng: &mut Rng, table: &Table, image: &mut Vec<u8>) {
-    match rng.below(10) {
+    match rng.below(12) {
         0 | 1 => change_length(rng, image, 6),
         2 => image.truncate(rng.below(4)),
-        3..=6 => {
+        3..=6 => flip(image, spare_bit_of_header(rng)),
+        7 | 8 => {
             let spare = spare_bits(table.events.min(127), table.count.min(511));
-            let part = &spare[rng.below(3)];
+            let part = &spare[rng.below(2)];
             if let Some(bit) = rng.pick(part) {
                 flip(image, bit);
             }
         }
-        7 => {
+        9 => {
             // A header that asks for other counts than the image has.
             let bit = rng.below(16);
             flip(image, bit);

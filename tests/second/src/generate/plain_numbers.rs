@@ -11,6 +11,7 @@ use crate::writing::class_bytes;
 /// A table as plain numbers.
 struct Numbers {
     events: usize,
+    firm: u32,
     classes: Vec<u8>,
     relations: Vec<u32>,
 }
@@ -46,7 +47,7 @@ fn damage_relation(rng: &mut Rng, events: usize, relation: &mut [u32]) {
 /// One fault. It may happen to be none.
 fn damage(rng: &mut Rng, numbers: &mut Numbers) {
     let count = numbers.relations.len() / NUMBERS;
-    match rng.below(20) {
+    match rng.below(23) {
         0 => numbers.events = rng.one_of([0, 65, 127, 128, 256, usize::MAX]),
         // Right again in 7, 8 and 32 bits.
         1 => {
@@ -79,6 +80,8 @@ fn damage(rng: &mut Rng, numbers: &mut Numbers) {
                 *class |= spare;
             }
         }
+        9 | 10 => numbers.firm = rng.one_of([2, 128, 256, 2_147_483_648, u32::MAX]),
+        11 => numbers.firm = too_wide(rng, numbers.firm, 1),
         _ => {
             let place = NUMBERS * rng.below(count);
             if let Some(relation) = numbers.relations.get_mut(place..place + NUMBERS) {
@@ -94,6 +97,7 @@ fn some_numbers(rng: &mut Rng, damaged_percent: usize) -> Numbers {
     let used: &[Relation] = &table.relations[..table.count];
     let mut numbers = Numbers {
         events: table.events,
+        firm: u32::from(table.firm),
         classes: class_bytes(&table, table.events),
         relations: used.iter().flat_map(numbers_of).collect(),
     };
@@ -111,6 +115,7 @@ pub fn build_table_case(rng: &mut Rng) -> Case {
     let room = room_for_table(numbers.events, numbers.relations.len() / NUMBERS);
     Case::BuildTable {
         events: numbers.events,
+        firm: numbers.firm,
         classes: numbers.classes,
         relations: numbers.relations,
         buffer: some_buffer(rng, room),

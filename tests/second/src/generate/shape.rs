@@ -100,23 +100,7 @@ impl Plan {
                 };
                 Some(relation(MILESTONE, left, right, None))
             }
-            RESPONSE => {
-                let left = rng.pick(&any)?;
-                let targets =
-                    self.events_where(|event| !(self.working[left] && self.milestone[event]));
-                let right = if rng.chance(15) && targets.contains(&left) {
-                    left
-                } else {
-                    rng.pick(&targets)?
-                };
-                let bounded = self.working[right] && rng.chance(75);
-                let time = if bounded {
-                    Some(some_time(rng).max(1))
-                } else {
-                    None
-                };
-                Some(relation(RESPONSE, left, right, time))
-            }
+            RESPONSE => self.response(rng, 15),
             INCLUDES => {
                 let left = rng.pick(&any)?;
                 let targets = self.events_where(|event| {
@@ -134,6 +118,25 @@ impl Plan {
                 Some(relation(EXCLUDES, left, rng.pick(&held)?, None))
             }
         }
+    }
+
+    /// A response that leaves the check accepting, if the draw allows. So many
+    /// of a hundred are to the event itself.
+    fn response(&self, rng: &mut Rng, own_percent: usize) -> Option<Relation> {
+        let left = rng.below(self.events);
+        let targets = self.events_where(|event| !(self.working[left] && self.milestone[event]));
+        let right = if rng.chance(own_percent) && targets.contains(&left) {
+            left
+        } else {
+            rng.pick(&targets)?
+        };
+        let bounded = self.working[right] && rng.chance(75);
+        let time = if bounded {
+            Some(some_time(rng).max(1))
+        } else {
+            None
+        };
+        Some(relation(RESPONSE, left, right, time))
     }
 
     fn record(&self, rng: &mut Rng, event: usize, busy_day: bool) -> Record {
@@ -233,6 +236,7 @@ fn shaped(rng: &mut Rng) -> (Table, Marking) {
     table.events = plan.events;
     table.controllable = word_of(&plan.controllable);
     table.causable = word_of(&plan.causable);
+    table.firm = rng.flag();
     for _ in 0..relation_count(rng, plan.events) {
         if let Some(relation) = plan.relation(rng) {
             push(&mut table, relation);
@@ -254,10 +258,51 @@ fn shaped(rng: &mut Rng) -> (Table, Marking) {
     for event in 0..plan.events {
         marking.records[event] = plan.record(rng, event, busy_day);
     }
+    if rng.chance(60) {
+        add_meetings(rng, &plan, &mut table, &mut marking);
+    }
     if rng.chance(35) {
         add_chain(rng, &plan, &mut table, &mut marking);
     }
     (table, marking)
+}
+
+/// A deadline sooner than this time, at it or later, often by 1 only. None:
+/// eventually.
+fn deadline_to_meet(rng: &mut Rng, time: u32) -> Option<u32> {
+    match rng.below(8) {
+        0 | 1 => None,
+        2 => Some(0),
+        3 | 4 => Some(time.saturating_sub(1)),
+        5 => Some(time),
+        6 => Some((time + 1).min(TIME_LIMIT)),
+        _ => Some(some_time(rng)),
+    }
+}
+
+/// Responses that meet an event which is pending already, be it the one that
+/// responds. How the two deadlines stand to each other decides in a firm table.
+fn add_meetings(rng: &mut Rng, plan: &Plan, table: &mut Table, marking: &mut Marking) {
+    for _ in 0..rng.between(1, plan.events) {
+        let Some(response) = plan.response(rng, 35) else {
+            continue;
+        };
+        let (left, right) = (usize::from(response.left), usize::from(response.right));
+        if !plan.working[right] {
+            // It could only be pending eventually.
+            continue;
+        }
+        push(table, response);
+        let deadline = deadline_to_meet(rng, response.time);
+        let record = &mut marking.records[right];
+        record.pending = true;
+        record.bounded = deadline.is_some();
+        record.deadline = deadline.unwrap_or(0);
+        // An event that is to respond to itself has to be included.
+        if right != left && plan.controllable[right] && rng.chance(25) {
+            record.included = false;
+        }
+    }
 }
 
 /// A due event, an inhibitor that blocks it, one that blocks that, and so on.
@@ -398,6 +443,7 @@ fn wild(rng: &mut Rng) -> (Table, Marking) {
     table.events = events;
     table.controllable = (rng.next_u64() | rng.next_u64()) % 2u64.pow(events.min(63) as u32);
     table.causable = (rng.next_u64() | rng.next_u64()) % 2u64.pow(events.min(63) as u32);
+    table.firm = rng.flag();
     for _ in 0..rng.below(3 * events) {
         let left = rng.below(events);
         let right = rng.below(events);

@@ -4,6 +4,7 @@ mod carrying;
 mod closures;
 mod counts;
 mod examples;
+mod firm;
 mod mistakes;
 mod order;
 mod plain_numbers;

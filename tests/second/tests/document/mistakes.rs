@@ -64,6 +64,7 @@ fn a_response_to_itself_is_kept() {
     assert_eq!(after.records[0], expected);
 }
 
+/// Of tables that are not firm: in a firm one the smaller is kept.
 #[test]
 fn a_new_deadline_replaces_a_smaller_one() {
     let classes = [CONTROLLED; 2];

@@ -21,10 +21,15 @@ fn under_4_bytes_before_the_header() {
 fn on_the_header_2_before_3_and_both_before_the_length() {
     assert_eq!(read_table(&[0, 0, 0, 1]).number, 2);
     assert_eq!(read_table(&[0, 0, 0, 0]).number, 3);
+    // Firm is no fault, neither alone nor next to one.
+    assert_eq!(read_table(&[0, 0, 128, 1]).number, 2);
+    assert_eq!(read_table(&[0, 0, 128, 0]).number, 3);
     let mut image = table_image(&[CONTROLLED], &[]);
     image.push(0);
     assert_eq!(read_table(&image).number, 1);
     image[2] = 128;
+    assert_eq!(read_table(&image).number, 1);
+    image[2] = 64;
     assert_eq!(read_table(&image).number, 2);
     assert_eq!(read_table(&header(65, 0)).number, 3);
     assert_eq!(read_table(&header(64, 0)).number, 1);
@@ -246,7 +251,9 @@ fn the_station_refuses_in_the_order_of_its_input() {
     assert_eq!(station(&image[..3]), [1]);
     // The header's own faults, whatever follows.
     assert_eq!(station(&[2, 0, 0, 1]), [2]);
+    assert_eq!(station(&[2, 0, 128, 1]), [2]);
     assert_eq!(station(&[0, 0, 0, 0]), [3]);
+    assert_eq!(station(&[0, 0, 128, 0]), [3]);
     assert_eq!(station(&header(65, 0)), [3]);
     // Less than the header says.
     assert_eq!(station(&wrong_image[..10]), [1]);

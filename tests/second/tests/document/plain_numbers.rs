@@ -8,22 +8,35 @@ use second::*;
 const LENT: u8 = 0xA5;
 const LENT_NUMBER: u32 = 0xDEAD_BEEF;
 
+/// The image of the table that is not firm. The firm one has one bit more.
 fn built(events: usize, classes: &[u8], relations: &[u32]) -> Vec<u8> {
     let length = 4 + events + 6 * (relations.len() / 5);
-    let mut buffer = vec![LENT; length + 3];
-    assert_eq!(build_table(events, classes, relations, &mut buffer), 0);
-    assert_eq!(buffer.split_off(length), [LENT; 3]);
-    buffer
+    let [image, firm] = [0, 1].map(|firm| {
+        let mut buffer = vec![LENT; length + 3];
+        let given = build_table(events, firm, classes, relations, &mut buffer);
+        assert_eq!(given, 0);
+        assert_eq!(buffer.split_off(length), [LENT; 3]);
+        buffer
+    });
+    assert_eq!(firm, firm_image(&image));
+    image
 }
 
-/// The call is refused with this number and writes nothing, however long the
-/// buffer is.
-fn refused(events: usize, classes: &[u8], relations: &[u32], number: u8) {
+/// The call is refused with this number for one such firm, and writes nothing,
+/// however long the buffer is.
+fn refused_with(firm: u32, (events, classes, relations): (usize, &[u8], &[u32]), number: u8) {
     for length in [0, 1, 4, 5, 10, 11, 2000] {
         let mut buffer = vec![LENT; length];
-        let given = build_table(events, classes, relations, &mut buffer);
-        assert_eq!(given, number, "room {length}");
+        let given = build_table(events, firm, classes, relations, &mut buffer);
+        assert_eq!(given, number, "firm {firm}, room {length}");
         assert_eq!(buffer, vec![LENT; length]);
+    }
+}
+
+/// The call is refused with this number for firm tables and others.
+fn refused(events: usize, classes: &[u8], relations: &[u32], number: u8) {
+    for firm in [0, 1] {
+        refused_with(firm, (events, classes, relations), number);
     }
 }
 
@@ -75,8 +88,27 @@ fn the_smallest_and_the_largest() {
     assert_eq!(image[1598..], [0x3F, 0xFF, 0xEE, 0x6B, 0x28, 0]);
 }
 
+/// Neither 0 nor 1; some would be right again in 1, 8, 16 or 31 bits.
+const NO_FIRM: [u32; 9] = [2, 3, 128, 255, 256, 257, 65_537, 2_147_483_648, u32::MAX];
+
 #[test]
-fn first_3_for_the_counts() {
+fn first_2_for_a_firm_that_is_neither_0_nor_1() {
+    let right = [3, 0, 0, 0, 0];
+    for firm in NO_FIRM {
+        // Whatever else is wrong: counts, lengths, class bytes, relations.
+        for events in [0, 1, 65, usize::MAX] {
+            for classes in [&[][..], &[0], &[0xFF]] {
+                for relations in [&[][..], &right, &right[..4], &[9; 5]] {
+                    refused_with(firm, (events, classes, relations), 2);
+                }
+            }
+        }
+        refused_with(firm, (1, &[0], &right.repeat(257)), 2);
+    }
+}
+
+#[test]
+fn then_3_for_the_counts() {
     let right = [3, 0, 0, 0, 0];
     for events in [0, 65, 128, 129, 256, 257, usize::MAX] {
         // Whatever else is wrong: lengths, class bytes, relations.
@@ -193,8 +225,10 @@ fn bounded_and_time_by_kind() {
                 };
                 let mut buffer = [LENT; 11];
                 let numbers = [kind, 0, 0, bounded, time];
-                let given = build_table(1, &[0], &numbers, &mut buffer);
-                assert_eq!(given, if right { 0 } else { 6 }, "{numbers:?}");
+                for firm in [0, 1] {
+                    let given = build_table(1, firm, &[0], &numbers, &mut buffer);
+                    assert_eq!(given, if right { 0 } else { 6 }, "{numbers:?}");
+                }
             }
         }
     }
@@ -202,12 +236,15 @@ fn bounded_and_time_by_kind() {
 
 #[test]
 fn last_14_for_a_short_buffer() {
-    for length in 0..11 {
-        let mut buffer = vec![LENT; length];
-        assert_eq!(build_table(1, &[0], &[3, 0, 0, 0, 0], &mut buffer), 14);
-        assert_eq!(buffer, vec![LENT; length]);
+    let numbers = [3, 0, 0, 0, 0];
+    for firm in [0, 1] {
+        for length in 0..11 {
+            let mut buffer = vec![LENT; length];
+            assert_eq!(build_table(1, firm, &[0], &numbers, &mut buffer), 14);
+            assert_eq!(buffer, vec![LENT; length]);
+        }
+        assert_eq!(build_table(1, firm, &[0], &numbers, &mut [LENT; 11]), 0);
     }
-    assert_eq!(build_table(1, &[0], &[3, 0, 0, 0, 0], &mut [LENT; 11]), 0);
 }
 
 /// Neither a relation nor a class is told, and nothing is written.
@@ -222,30 +259,67 @@ fn not_told(image: &[u8], asked: usize, number: u8) {
     assert_eq!(place, LENT);
 }
 
+/// Nor is firm, and its place stays.
+fn firm_not_told(image: &[u8], number: u8) {
+    for before in [0, 1, LENT_NUMBER] {
+        let mut place = before;
+        assert_eq!(tell_firm(image, &mut place), number);
+        assert_eq!(place, before);
+    }
+}
+
 #[test]
 fn nothing_is_told_of_a_table_that_is_refused() {
-    let wrong_kind = Relation {
-        kind: 6,
-        ..includes(0, 0)
-    };
-    let wrong_time = Relation {
-        time: 1,
-        ..includes(0, 0)
-    };
-    for (image, number) in [
-        (vec![], 1),
-        (table_image(&[CONTROLLED], &[])[..4].to_vec(), 1),
-        (vec![2, 0, 0, 1, 0], 2),
-        (vec![2, 0, 0, 0, 1], 2),
-        (header(0, 0).to_vec(), 3),
-        (table_image(&[CONTROLLED; 65], &[]), 3),
-        (table_image(&[CONTROLLED], &[wrong_kind]), 4),
-        (table_image(&[CONTROLLED], &[includes(0, 1)]), 5),
-        (table_image(&[CONTROLLED], &[wrong_time]), 6),
-    ] {
+    for (image, number) in refused_tables() {
         for asked in [0, 1, 64, usize::MAX] {
             not_told(&image, asked, number);
         }
+        firm_not_told(&image, number);
+        if image.len() > 2 {
+            firm_not_told(&firm_image(&image), number);
+        }
+    }
+}
+
+#[test]
+fn whether_a_table_is_firm_is_told() {
+    let all = vec![includes(0, 0); 256];
+    for image in [
+        table_image(&[UNCONTROLLED], &[]),
+        table_image(&P_CLASSES, &p_relations()),
+        table_image(&[CONTROLLED; 64], &all),
+    ] {
+        for before in [0, 1, LENT_NUMBER] {
+            let mut place = before;
+            assert_eq!(tell_firm(&image, &mut place), 0);
+            assert_eq!(place, 0);
+            place = before;
+            assert_eq!(tell_firm(&firm_image(&image), &mut place), 0);
+            assert_eq!(place, 1);
+        }
+    }
+}
+
+/// What is told of relations and classes does not depend on firm.
+#[test]
+fn a_firm_table_is_told_as_any_other() {
+    let image = table_image(&P_CLASSES, &p_relations());
+    let firm = firm_image(&image);
+    for relation in 0..7 {
+        let mut places = [[LENT_NUMBER; 5]; 2];
+        assert_eq!(
+            tell_relation(&image, relation, &mut places[0]),
+            tell_relation(&firm, relation, &mut places[1])
+        );
+        assert_eq!(places[0], places[1]);
+    }
+    for event in 0..6 {
+        let mut places = [LENT; 2];
+        assert_eq!(
+            tell_class(&image, event, &mut places[0]),
+            tell_class(&firm, event, &mut places[1])
+        );
+        assert_eq!(places[0], places[1]);
     }
 }
 

@@ -120,24 +120,7 @@ fn the_last_of_64_events() {
 
 #[test]
 fn the_table_is_refused_as_its_reader_refuses_it() {
-    let wrong_kind = Relation {
-        kind: 6,
-        ..includes(0, 0)
-    };
-    let wrong_time = Relation {
-        time: 1,
-        ..includes(0, 0)
-    };
-    for (table, number) in [
-        (vec![], 1),
-        (events_alone(1)[..4].to_vec(), 1),
-        (vec![2, 0, 0, 1, 0], 2),
-        (header(0, 0).to_vec(), 3),
-        (events_alone(65), 3),
-        (table_image(&[CONTROLLED], &[wrong_kind]), 4),
-        (table_image(&[CONTROLLED], &[includes(0, 1)]), 5),
-        (table_image(&[CONTROLLED], &[wrong_time]), 6),
-    ] {
+    for (table, number) in refused_tables() {
         assert_eq!(read_table(&table).number, number);
         // Whatever else is wrong: the marking's length or record, the event.
         for marking in [&[0; 12][..], &[255; 12], &[0; 11], &[]] {

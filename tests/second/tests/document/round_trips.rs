@@ -15,6 +15,24 @@ fn classes_of(table: &Table) -> Vec<Class> {
     (0..table.events).map(class).collect()
 }
 
+/// The image of a table, put together by hand.
+fn image_by_hand(of: &Table) -> Vec<u8> {
+    let image = table_image(&classes_of(of), &of.relations[..of.count]);
+    if of.firm {
+        firm_image(&image)
+    } else {
+        image
+    }
+}
+
+/// The table with its unused places empty.
+fn used_places(of: &Table) -> Table {
+    Table {
+        firm: of.firm,
+        ..table(&classes_of(of), &of.relations[..of.count])
+    }
+}
+
 #[test]
 fn a_written_marking_reads_back() {
     let mut rng = Rng::new(11);
@@ -55,25 +73,19 @@ fn a_table_image_reads_as_the_table_it_was_made_from() {
     let mut rng = Rng::new(13);
     for _ in 0..500 {
         let made_from = generate::sound_pair(&mut rng).table;
-        let classes = classes_of(&made_from);
-        let relations = &made_from.relations[..made_from.count];
-        let image = table_image(&classes, relations);
+        let image = image_by_hand(&made_from);
         assert_eq!(generate::table_image(&made_from), image);
         let read = read_table(&image);
         assert_eq!(read.number, 0);
-        assert_eq!(read.table, table(&classes, relations));
+        assert_eq!(read.table, used_places(&made_from));
     }
-}
-
-/// The table with its unused places empty.
-fn used_places(of: &Table) -> Table {
-    table(&classes_of(of), &of.relations[..of.count])
 }
 
 #[test]
 fn a_written_table_reads_back_with_its_unused_places_empty() {
     let mut rng = Rng::new(15);
     let mut had_rubbish = 0;
+    let mut firm = 0;
     for _ in 0..500 {
         let handed_in = generate::sound_pair(&mut rng).table;
         let length = 4 + handed_in.events + 6 * handed_in.count;
@@ -84,8 +96,10 @@ fn a_written_table_reads_back_with_its_unused_places_empty() {
         assert_eq!(read.number, 0);
         assert_eq!(read.table, used_places(&handed_in));
         had_rubbish += usize::from(read.table != *handed_in);
+        firm += usize::from(read.table.firm);
     }
     assert!(had_rubbish > 100, "{had_rubbish}");
+    assert!(firm > 200 && firm < 300, "{firm}");
 }
 
 #[test]
@@ -119,8 +133,7 @@ fn image_of_any(table: &Table) -> Option<Vec<u8>> {
     let fits = |relation: &Relation| {
         relation.kind < 8 && relation.left.max(relation.right) < 64 && relation.time < 1_073_741_824
     };
-    let image = table_image(&classes_of(table), used);
-    used.iter().all(fits).then_some(image)
+    used.iter().all(fits).then(|| image_by_hand(table))
 }
 
 #[test]
@@ -162,9 +175,11 @@ fn numbers_told_of_a_table_build_it_again() {
         for (relation, places) in relations.chunks_mut(5).enumerate() {
             assert_eq!(tell_relation(&image, relation, places), 0);
         }
+        let mut firm = 9;
+        assert_eq!(tell_firm(&image, &mut firm), 0);
         let mut again = vec![170; image.len()];
         assert_eq!(
-            build_table(table.events, &classes, &relations, &mut again),
+            build_table(table.events, firm, &classes, &relations, &mut again),
             0
         );
         assert_eq!(again, image);

@@ -76,6 +76,7 @@ pub const NO_TABLE: Table = Table {
     causable: 0,
     events: 0,
     count: 0,
+    firm: false,
 };
 
 pub const NO_MARKING: Marking = Marking {
@@ -83,7 +84,7 @@ pub const NO_MARKING: Marking = Marking {
     events: 0,
 };
 
-/// The decoded table.
+/// The decoded table, not firm.
 pub fn table(classes: &[Class], relations: &[Relation]) -> Table {
     let mut table = NO_TABLE;
     table.events = classes.len();
@@ -96,7 +97,15 @@ pub fn table(classes: &[Class], relations: &[Relation]) -> Table {
     table
 }
 
-/// The header, with its spare bits 0.
+/// The same table, firm.
+pub fn firm(table: &Table) -> Table {
+    Table {
+        firm: true,
+        ..*table
+    }
+}
+
+/// The header of a table that is not firm, with its spare bits 0.
 pub fn header(events: usize, relations: usize) -> [u8; 4] {
     let counts = (events * 512 + relations) as u16;
     let [high, low] = counts.to_be_bytes();
@@ -123,6 +132,13 @@ pub fn table_image(classes: &[Class], relations: &[Relation]) -> Vec<u8> {
     let mut image = header(classes.len(), relations.len()).to_vec();
     image.extend(classes.iter().map(|&class| class_image(class)));
     image.extend(relations.iter().flat_map(relation_image));
+    image
+}
+
+/// The image of the same table, firm: the first bit behind the two counts is set.
+pub fn firm_image(image: &[u8]) -> Vec<u8> {
+    let mut image = image.to_vec();
+    image[2] += 128;
     image
 }
 
@@ -253,9 +269,22 @@ pub fn both_ways(classes: &[Class], relations: &[Relation], ask: impl Fn(&Table)
     ask(&read.table);
 }
 
+/// The same of a firm table.
+pub fn firm_both_ways(classes: &[Class], relations: &[Relation], ask: impl Fn(&Table)) {
+    let read = read_table(&firm_image(&table_image(classes, relations)));
+    assert_eq!(read.number, 0);
+    ask(&firm(&table(classes, relations)));
+    ask(&read.table);
+}
+
 /// P, both ways.
 pub fn for_p(ask: impl Fn(&Table)) {
     both_ways(&P_CLASSES, &p_relations(), ask);
+}
+
+/// P as a firm table, both ways.
+pub fn for_firm_p(ask: impl Fn(&Table)) {
+    firm_both_ways(&P_CLASSES, &p_relations(), ask);
 }
 
 /// P with one more relation.
@@ -308,4 +337,28 @@ pub fn rejected(reason: u8, place: u16) -> CheckAnswer {
         reason,
         place,
     }
+}
+
+/// Images that a table's reader refuses, with the number: one for each rule that
+/// they can break.
+pub fn refused_tables() -> Vec<(Vec<u8>, u8)> {
+    let wrong_kind = Relation {
+        kind: 6,
+        ..includes(0, 0)
+    };
+    let wrong_time = Relation {
+        time: 1,
+        ..includes(0, 0)
+    };
+    vec![
+        (vec![], 1),
+        (table_image(&[CONTROLLED], &[])[..4].to_vec(), 1),
+        (vec![2, 0, 0, 1, 0], 2),
+        (vec![2, 0, 0, 0, 1], 2),
+        (header(0, 0).to_vec(), 3),
+        (table_image(&[CONTROLLED; 65], &[]), 3),
+        (table_image(&[CONTROLLED], &[wrong_kind]), 4),
+        (table_image(&[CONTROLLED], &[includes(0, 1)]), 5),
+        (table_image(&[CONTROLLED], &[wrong_time]), 6),
+    ]
 }

@@ -21,12 +21,14 @@ fn written(table: &Table) -> Vec<u8> {
 }
 
 /// The call is refused with this number and writes nothing, however long the
-/// buffer is.
+/// buffer is, and be the table firm or not.
 fn refused(table: &Table, number: u8) {
-    for length in [0, 1, 4, 5, 10, 11, 12, 2000] {
-        let mut buffer = vec![LENT; length];
-        assert_eq!(write_table(table, &mut buffer), number, "room {length}");
-        assert_eq!(buffer, vec![LENT; length]);
+    for table in [*table, firm(table)] {
+        for length in [0, 1, 4, 5, 10, 11, 12, 2000] {
+            let mut buffer = vec![LENT; length];
+            assert_eq!(write_table(&table, &mut buffer), number, "room {length}");
+            assert_eq!(buffer, vec![LENT; length]);
+        }
     }
 }
 
@@ -35,6 +37,8 @@ fn the_hex_table_of_the_shop() {
     let expected = [4, 1, 0, 0, 0x40, 0x80, 0x40, 1, 0, 0, 0, 4];
     let table = table(&[CAUSABLE_ONLY, CONTROLLABLE_ONLY], &[response(0, 0, 1)]);
     assert_eq!(written(&table), expected);
+    let expected = [4, 1, 0x80, 0, 0x40, 0x80, 0x40, 1, 0, 0, 0, 4];
+    assert_eq!(written(&firm(&table)), expected);
 }
 
 #[test]
@@ -82,11 +86,15 @@ fn the_smallest_and_the_largest() {
     let image = written(&table(&[CONTROLLED; 64], &relations));
     assert_eq!(image.len(), 1604);
     assert_eq!(image, table_image(&[CONTROLLED; 64], &relations));
+    let firm = firm(&table(&[CONTROLLED; 64], &relations));
+    assert_eq!(written(&firm), firm_image(&image));
 }
 
 #[test]
 fn p_as_it_is_put_together_by_hand() {
-    for_p(|p| assert_eq!(written(p), table_image(&P_CLASSES, &p_relations())));
+    let image = table_image(&P_CLASSES, &p_relations());
+    for_p(|p| assert_eq!(written(p), image));
+    for_firm_p(|p| assert_eq!(written(p), firm_image(&image)));
 }
 
 #[test]
@@ -211,11 +219,12 @@ fn last_14_for_a_short_buffer() {
 fn spare_bits_are_0_whatever_the_buffer_held() {
     for before in [0, 0xFF] {
         let mut buffer = [before; 11];
-        assert_eq!(
-            write_table(&table(&[UNCONTROLLED], &[includes(0, 0)]), &mut buffer),
-            0
-        );
+        let table = table(&[UNCONTROLLED], &[includes(0, 0)]);
+        assert_eq!(write_table(&table, &mut buffer), 0);
         assert_eq!(buffer, [2, 1, 0, 0, 0, 0x60, 0, 0, 0, 0, 0]);
+        buffer.fill(before);
+        assert_eq!(write_table(&firm(&table), &mut buffer), 0);
+        assert_eq!(buffer, [2, 1, 0x80, 0, 0, 0x60, 0, 0, 0, 0, 0]);
     }
 }
 

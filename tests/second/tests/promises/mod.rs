@@ -4,8 +4,11 @@
 
 mod carrying;
 mod counts;
+pub mod firm;
+pub mod replay;
 mod tables;
 
+use replay::{replay, REPLAYED};
 use second::case::{Answer, Case, Pair};
 use second::{generate, *};
 use std::collections::BTreeSet;
@@ -84,9 +87,11 @@ fn effect(table: &Table, before: &Marking, event: usize) -> Marking {
                 .filter(|relation| relation.kind == 2 && relation.bounded)
                 .map(|relation| relation.time)
                 .min();
-            record.pending = true;
-            record.bounded = smallest.is_some();
-            record.deadline = smallest.unwrap_or(0);
+            if !firm::keeps_its_date(table, record, smallest) {
+                record.pending = true;
+                record.bounded = smallest.is_some();
+                record.deadline = smallest.unwrap_or(0);
+            }
         }
     }
     after
@@ -123,6 +128,7 @@ fn one_tick_later(before: &Marking) -> Marking {
 }
 
 fn read_table_promise(bytes: &[u8], read: &ReadTable) -> Promise {
+    firm::read_promise(bytes, read)?;
     if read.number != 0 {
         return holds(
             read.table.relations == [EMPTY_RELATION; 256]
@@ -343,6 +349,7 @@ fn ask_promise(pair: &Pair, event: usize, fits: bool, answer: &MarkingAnswer) ->
     match answer.number {
         0 => {
             holds(fits && enabled.enabled, "executed without leave")?;
+            firm::execution_promise(table, marking, event, &answer.marking)?;
             holds(
                 answer.marking == effect(table, marking, event),
                 "the effect is wrong",
@@ -591,6 +598,10 @@ fn guarded_promise(pair: &Pair, answer: &GuardedAnswer) -> Promise {
         "the caused events are not the needed ones in order",
     )?;
 
+    if table.firm {
+        firm::tick_promise(marking, caused, &answer.marking)?;
+    }
+
     // The caused events can be executed one after another, and then a plain
     // tick gives the same marking.
     let mut now = **marking;
@@ -654,26 +665,6 @@ fn remedies_promise(
     )
 }
 
-/// One step by the call that the step stands for.
-fn step_by_call(table: &Table, marking: &Marking, step: &Step) -> (u8, Marking) {
-    let event = usize::from(step.event);
-    let answer = match (step.kind, step.event) {
-        (0, _) => request(table, marking, event),
-        (1, _) => report(table, marking, event),
-        (2, 0) => plain_tick(table, marking),
-        (3, 0) => {
-            let answer = guarded_tick(table, marking);
-            return (answer.number, answer.marking);
-        }
-        _ => return (15, *marking),
-    };
-    (answer.number, answer.marking)
-}
-
-/// Replaying judges table and marking again at each step, so long traces are
-/// replayed only as far as this.
-const REPLAYED: usize = 64;
-
 fn run_promise(
     pair: &Pair,
     steps: &[Step],
@@ -702,20 +693,20 @@ fn run_promise(
     )?;
     made(table, marking, &end.marking)?;
 
-    let mut now = **marking;
-    let mut history = counts::History::new(marking);
-    for (step, &answer) in steps.iter().zip(after).take(REPLAYED) {
-        let (number, made) = step_by_call(table, &now, step);
-        history.add(table, &now, step, answer);
+    let moments = replay(table, marking, steps);
+    for (moment, &answer) in moments.iter().zip(after) {
         holds(
-            answer == number,
+            answer == moment.number,
             "a step is answered otherwise than its call",
         )?;
-        now = made;
+    }
+    if table.firm {
+        firm::dates_promise(marking, &moments)?;
     }
     if steps.len() <= REPLAYED {
-        holds(end.marking == now, "the end marking is wrong")?;
-        history.promise(&end.marking)?;
+        let last = moments.last().map_or(**marking, |moment| moment.marking);
+        holds(end.marking == last, "the end marking is wrong")?;
+        counts::counts_promise(marking, &moments, &end.marking)?;
     }
 
     if accepts(table, marking) {
@@ -768,7 +759,7 @@ fn run_bytes_promise(
 fn station_promise(input: &[u8], output: &[u8]) -> Promise {
     let refused = |number: u8| holds(output == [number], "not the refusal of its part");
     let whole = read_table(input);
-    if [2, 3].contains(&whole.number) && input[2..4] != [0, 0] {
+    if [2, 3].contains(&whole.number) && [input[2] % 128, input[3]] != [0, 0] {
         return refused(2);
     }
     if input.len() < 4 {
@@ -915,6 +906,7 @@ pub fn promise(case: &Case, answer: &Answer) -> Promise {
         (
             Case::BuildTable {
                 events,
+                firm,
                 classes,
                 relations,
                 buffer,
@@ -924,7 +916,7 @@ pub fn promise(case: &Case, answer: &Answer) -> Promise {
                 buffer: after,
             },
         ) => {
-            let numbers = (*events, classes.as_slice(), relations.as_slice());
+            let numbers = (*events, *firm, classes.as_slice(), relations.as_slice());
             tables::build_table_promise(numbers, buffer, *number, after)
         }
         (

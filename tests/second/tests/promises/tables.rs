@@ -25,10 +25,10 @@ fn class(table: &Table, event: usize) -> u8 {
 }
 
 /// There are as many events as class bytes.
-fn image(classes: &[u8], relations: &[Five]) -> Vec<u8> {
+fn image(firm: bool, classes: &[u8], relations: &[Five]) -> Vec<u8> {
     let counts = (512 * classes.len() + relations.len()) as u16;
     let [high, low] = counts.to_be_bytes();
-    let mut image = vec![high, low, 0, 0];
+    let mut image = vec![high, low, 128 * u8::from(firm), 0];
     image.extend(classes);
     for numbers in relations {
         let [kind, left, right, bounded, time] = numbers.map(u64::from);
@@ -73,7 +73,7 @@ pub fn write_table_promise(table: &Table, before: &[u8], number: u8, after: &[u8
         0 => {
             let classes: Vec<u8> = (0..table.events).map(|event| class(table, event)).collect();
             let fives: Vec<Five> = table.relations[..table.count].iter().map(five).collect();
-            Ok(image(&classes, &fives))
+            Ok(image(table.firm, &classes, &fives))
         }
         fault => Err(fault),
     };
@@ -119,7 +119,13 @@ fn fault_of(events: usize, numbers: &Five) -> u8 {
     }
 }
 
-fn image_of_numbers(events: usize, classes: &[u8], relations: &[u32]) -> Result<Vec<u8>, u8> {
+/// Events, firm, class bytes, and five numbers for each relation.
+type Numbers<'a> = (usize, u32, &'a [u8], &'a [u32]);
+
+fn image_of_numbers((events, firm, classes, relations): Numbers) -> Result<Vec<u8>, u8> {
+    if firm > 1 {
+        return Err(2);
+    }
     if events == 0 || events > 64 || relations.len() / 5 > 256 {
         return Err(3);
     }
@@ -139,22 +145,22 @@ fn image_of_numbers(events: usize, classes: &[u8], relations: &[u32]) -> Result<
         .find(|&fault| fault != 0)
     {
         Some(fault) => Err(fault),
-        None => Ok(image(classes, &fives)),
+        None => Ok(image(firm == 1, classes, &fives)),
     }
 }
 
-pub fn build_table_promise(
-    (events, classes, relations): (usize, &[u8], &[u32]),
-    before: &[u8],
-    number: u8,
-    after: &[u8],
-) -> Promise {
-    let expected = image_of_numbers(events, classes, relations);
-    written(expected, before, number, after)?;
+pub fn build_table_promise(numbers: Numbers, before: &[u8], number: u8, after: &[u8]) -> Promise {
+    written(image_of_numbers(numbers), before, number, after)?;
     if number != 0 {
         return Ok(());
     }
+    let (_, firm, classes, relations) = numbers;
     let image = &after[..4 + classes.len() + 6 * (relations.len() / 5)];
+    let mut place = !firm;
+    holds(
+        tell_firm(image, &mut place) == 0 && place == firm,
+        "firm is not told as it was given",
+    )?;
     for (event, class) in classes.iter().enumerate() {
         let mut place = !class;
         holds(

@@ -3,7 +3,7 @@ use Prim.Native.Nat.{_<_}
 use native.Mathlib.Omega.{arith}
 use borrow.Author.Needs.{needs}
 use borrow.Author.Tests.{ne-eqb}
-use Rattle.acts.specs.Laws.Asked.{head-exists, ask-refused, ask-acted}
+use Rattle.acts.specs.Laws.Asked.{head-exists, head-firm, ask-refused, ask-acted}
 use Rattle.acts.proofs.ask.ask.Statement.{statement}
 use Rattle.acts.proofs.ask.ask.Tie as tie
 
@@ -22,7 +22,7 @@ returns c t tail m good is own stands =
     let granted = c .before .before .before in
     let number = granted .before .class-number in
     let exists = head-exists _ _ t is (number .ensures .1 (granted .if1 .taken)) in
-    let acted = c .act .ensures t tail m good (own exists) exists stands in
+    let acted = c .act .ensures t tail m good (own exists) exists (head-firm _ t is) stands in
     (ask-acted _ t m _ _ (number .ensures .0 t is) (granted .if1 .taken) (acted .0), acted .1)
 
 returns-2 : tie.Need-returns-2

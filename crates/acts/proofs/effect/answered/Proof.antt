@@ -12,11 +12,11 @@ use Rattle.acts.proofs.effect.answered.Statement.{statement}
 use Rattle.acts.proofs.effect.answered.Tie as tie
 
 abbrev Inv-loop : tie.InvT-loop
-Inv-loop rows at links clock columns₀ next₀ seen₀ columns next seen =
-    (t : Table) (e : ℕ) → GoodTable t → Own t (t .count) e rows at links → length columns₀ ≡ 192 → Answering t e clock columns₀ next seen columns
+Inv-loop rows at links clock kept columns₀ next₀ dated₀ columns next dated =
+    (t : Table) (e : ℕ) → GoodTable t → Own t (t .count) e rows at links → length columns₀ ≡ 192 → Answering t e clock kept columns₀ next dated columns
 
 abbrev μ-loop : tie.MeasureT-loop
-μ-loop rows at links clock columns₀ next₀ seen₀ columns next seen = next
+μ-loop rows at links clock kept columns₀ next₀ dated₀ columns next dated = next
 
 add-next : tie.Need-add-next Inv-loop μ-loop
 add-next c = search needs
@@ -28,7 +28,7 @@ shared-slice-read-next : tie.Need-shared-slice-read-next Inv-loop μ-loop
 shared-slice-read-next c = search needs
 
 loop-holds : tie.Need-loop-holds Inv-loop μ-loop
-loop-holds c t e good own size = answering-start t e _ _ good _ _ _ own
+loop-holds c t e good own size = answering-start t e _ _ _ good _ _ _ own
 
 sub-w : tie.Need-sub-w Inv-loop μ-loop
 sub-w c = search needs
@@ -74,7 +74,7 @@ returns : tie.Need-returns Inv-loop μ-loop
 returns c t e good own size =
     let turn = c .before .before .before .before .before .before in
     let on = turn .before .loop .inv t e good own size in
-    absurd (omega (arith, c .if1 .taken, answering-less t e _ _ good _ _ _ own _ _ _ on (turn .loop-test .taken)))
+    absurd (omega (arith, c .if1 .taken, answering-less t e _ _ _ good _ _ _ own _ _ _ on (turn .loop-test .taken)))
 
 loop-less : tie.Need-loop-less Inv-loop μ-loop
 loop-less c = search needs
@@ -85,10 +85,10 @@ loop-again c t e good own size =
     let turn = stored .before .before .before .before in
     let on = turn .before .loop .inv t e good own size in
     rw (c .before .adding .ensures, stored .earlier .ensures, stored .before .before .has-event .ensures)
-    (answering-more t e _ _ good _ _ _ own _ _ _ on (turn .loop-test .taken) size)
+    (answering-more t e _ _ _ good _ _ _ own _ _ _ on (turn .loop-test .taken) size)
 
 returns-2 : tie.Need-returns-2 Inv-loop μ-loop
-returns-2 c t e good own size = answering-end t e _ _ _ _ _ (c .before .loop .inv t e good own size) (c .loop-test .left)
+returns-2 c t e good own size = answering-end t e _ _ _ _ _ _ (c .before .loop .inv t e good own size) (c .loop-test .left)
 
 pub answered-spec : {M : Type 1} → statement M
 answered-spec =

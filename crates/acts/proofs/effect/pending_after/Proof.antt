@@ -1,7 +1,6 @@
 -- By the members of the words. Assumes nothing.
 use borrow.Author.Needs.{needs}
-use Rattle.rules.specs.Laws.Bitwise.{has-or, has-one}
-use Rattle.rules.specs.Laws.Time.{one-shifted}
+use Rattle.rules.specs.Laws.Bitwise.{has-or}
 use Rattle.acts.proofs.effect.pending_after.Statement.{statement}
 use Rattle.acts.proofs.effect.pending_after.Tie as tie
 
@@ -23,14 +22,8 @@ mul-asked-2 c = search needs
 shared-slice-read-asked-2 : tie.Need-shared-slice-read-asked-2
 shared-slice-read-asked-2 c = search needs
 
-shl-without : tie.Need-shl-without
-shl-without c = search needs
-
-without-requires : tie.Need-without-requires
-without-requires c κs = search needs
-
 returns : tie.Need-returns
-returns c x = rw (has-or, has-or, c .without .ensures x, one-shifted _ (c .before .before .before .before .pre .1), has-one)
+returns c x = rw (has-or, has-or)
 
 pub pending-after-spec : {M : Type 1} → statement M
 pending-after-spec =
@@ -42,6 +35,4 @@ pending-after-spec =
     add-asked-2
     mul-asked-2
     shared-slice-read-asked-2
-    shl-without
-    without-requires
     returns)

@@ -35,9 +35,9 @@ returns c =
     let test = c .before .before .before in
     let s = test .before .before .before .before .before in (
       omega arith,
-      λ t tail m good derived linked b stands. (
+      λ t tail m good derived linked b firm stands. (
         effect t m (s .args .e),
-        c .effect .ensures t tail m good (derived-own t _ _ _ _ derived linked (s .pre .1 .1)) b stands,
+        c .effect .ensures t tail m good (derived-own t _ _ _ _ derived linked (s .pre .1 .1)) b firm stands,
         taken-in t m _ _ _
             (sym (included-told _ tail _ (s .args .sets .now) (s .args .columns .now) m stands _ b) ∙ sym (test .before .has-event .ensures)
             ∙ test .if1 .taken),
@@ -48,7 +48,7 @@ returns-2 : tie.Need-returns-2
 returns-2 c =
     let s = c .before .before .before .before .before in (
       omega arith,
-      λ t tail m good derived linked b stands. (
+      λ t tail m good derived linked b firm stands. (
         m,
         stands,
         taken-out t m _ _ _

@@ -15,11 +15,11 @@ use Rattle.duties.proofs.guard.take_all.Statement.{statement}
 use Rattle.duties.proofs.guard.take_all.Tie as tie
 
 abbrev Inv-loop : tie.InvT-loop
-Inv-loop rows links clock sets₀ columns₀ caused₀ n needed waiting untaken₀ ready₀ count₀ i₀ sets columns caused untaken ready count i =
-    Taking rows links clock sets₀ columns₀ caused₀ n needed sets columns caused untaken ready count i
+Inv-loop rows links clock sets₀ columns₀ caused₀ n needed firm waiting untaken₀ ready₀ count₀ i₀ sets columns caused untaken ready count i =
+    Taking rows links clock sets₀ columns₀ caused₀ n needed firm sets columns caused untaken ready count i
 
 abbrev μ-loop : tie.MeasureT-loop
-μ-loop rows links clock sets₀ columns₀ caused₀ n needed waiting untaken₀ ready₀ count₀ i₀ sets columns caused untaken ready count i = n - i
+μ-loop rows links clock sets₀ columns₀ caused₀ n needed firm waiting untaken₀ ready₀ count₀ i₀ sets columns caused untaken ready count i = n - i
 
 ready-requires : tie.Need-ready-requires Inv-loop μ-loop
 ready-requires c κs = (c .before .before .before .pre .1, refl)
@@ -35,9 +35,9 @@ loop-holds c = record {
 }
 
 returns : tie.Need-returns Inv-loop μ-loop
-returns c = λ t tail m good derived linked sized fits room stands.
+returns c = λ t tail m good derived linked sized firm fits room stands.
     let v = c .before .before .loop .inv in
-    let l = lent good derived linked sized fits in
+    let l = lent good derived linked sized firm fits in
     underway-none l tail _ m _ _ _ _ _ _ _ (v .onward t tail m l stands)
     (next-none t good _ derived (v .readied) (omega (arith, v .less, l .fits)) (c .if1 .taken)) room
 
@@ -109,12 +109,12 @@ loop-again c =
       onward = λ t tail m l stands.
           let at = next-at t (l .good) _ (l .derived) (v .readied) (omega (arith, v .less, l .fits)) _ (e .lowest .ensures) (event e .small) in
           underway-more l tail _ m _ _ _ _ _ _ _ (v .onward t tail m l stands) _ at (h .loop-test .taken) _ _ _ _
-          (λ now standing. c .before .take .ensures .1 t tail now (l .good) (l .derived) (l .linked) (at .1) standing);
+          (λ now standing. c .before .take .ensures .1 t tail now (l .good) (l .derived) (l .linked) (at .1) (l .firmly) standing);
     })
 
 returns-2 : tie.Need-returns-2 Inv-loop μ-loop
-returns-2 c = λ t tail m good derived linked sized fits room stands.
-    let l = lent good derived linked sized fits in
+returns-2 c = λ t tail m good derived linked sized firm fits room stands.
+    let l = lent good derived linked sized firm fits in
     underway-end l tail _ m _ _ _ _ _ _ _ (c .before .loop .inv .onward t tail m l stands) (c .loop-test .left) room
 
 pub take-all-spec : {M : Type 1} → statement M

@@ -12,11 +12,11 @@ use Rattle.duty.proofs.building.table_from.Statement.{statement}
 use Rattle.duty.proofs.building.table_from.Tie as tie
 
 abbrev Inv-loop : tie.InvT-loop
-Inv-loop events controllable causable numbers relations₀ count i₀ relations i =
+Inv-loop events firm controllable causable numbers relations₀ count i₀ relations i =
     (i ≤ count) × (relations ≡ places i (heldRelation numbers) ++ replicate (mostRelations - i) emptyRelation)
 
 abbrev μ-loop : tie.MeasureT-loop
-μ-loop events controllable causable numbers relations₀ count i₀ relations i = count - i
+μ-loop events firm controllable causable numbers relations₀ count i₀ relations i = count - i
 
 loop-holds : tie.Need-loop-holds Inv-loop μ-loop
 loop-holds c = (omega arith, filled-none _ emptyRelation mostRelations)

@@ -29,13 +29,13 @@ abbrev numberIn : List ℕ → ℕ → ℕ → ℕ
 numberIn image events k = relationImageNumber image events (relationBit events k)
 
 abbrev Inv-loop : tie.InvT-loop
-Inv-loop image events count controllable causable relations₀ i₀ relations i =
+Inv-loop image events count controllable causable firm relations₀ i₀ relations i =
     (i ≤ count)
     × (relations ≡ places i (relationIn image events) ++ replicate (mostRelations - i) emptyRelation)
     × (firstOf i (numberIn image events) ≡ 0)
 
 abbrev μ-loop : tie.MeasureT-loop
-μ-loop image events count controllable causable relations₀ i₀ relations i = count - i
+μ-loop image events count controllable causable firm relations₀ i₀ relations i = count - i
 
 refused-requires : tie.Need-refused-requires Inv-loop μ-loop
 refused-requires c κs = search needs
