@@ -37,7 +37,7 @@ module _ (clock : ℕ) where
   sooner-kept (within c) eventually counts date h = refl
   sooner-kept a (within d) counts date h = absurd (clash refl h)
 
-  -- one that is bounded gives its own, if none that is counts is earlier
+  -- one that is bounded gives its own, if no date that counts is earlier
   sooner-met : (a : Deadline) (time : ℕ) (counts : Bool) (date : ℕ)
       → sooner clock (smaller a (within time)) counts date ≡ sooner clock a true (cond counts (min (clock + time) date) (clock + time))
   sooner-met none time counts date = refl
@@ -45,7 +45,7 @@ module _ (clock : ℕ) where
   sooner-met (within c) time true date = omega arith
   sooner-met (within c) time false date = omega arith
 
-  -- the date that is stored for the right event of a response, which is counts from then on
+  -- the date that is stored for the right event of a response, which counts from then on
   abbrev dateAfter : ℕ → ℕ → ℕ → List ℕ → ℕ
   dateAfter right time dated columns = cond (has dated right) (min (clock + time) (getD columns (64 + right) 0)) (clock + time)
 

@@ -196,7 +196,8 @@ pub record Taking (rows links : List ℕ) (clock : ℕ) (first-sets first-column
   pub onward : (t : Table) (tail : List Record) (m : Marking) → Lent t rows links n needed firm → Stands n tail clock first-sets first-columns m
       → Underway t tail clock needed m before sets columns list count untaken i
 
-module _ {t : Table} {rows links : List ℕ} {n needed firm : ℕ} (l : Lent t rows links n needed firm) (tail : List Record) (clock : ℕ) (m : Marking) (before : List ℕ)
+module _ {t : Table} {rows links : List ℕ} {n needed firm : ℕ} (l : Lent t rows links n needed firm)
+    (tail : List Record) (clock : ℕ) (m : Marking) (before : List ℕ)
   where
     pub underway-start : (sets columns : List ℕ) → Stands n tail clock sets columns m → Underway t tail clock needed m before sets columns before 0 needed 0
     underway-start sets columns stands = (m, rw (l .sized) stands, onward-start t needed (stateOf m before 0))

@@ -148,7 +148,8 @@ returns-4 c =
     let words = made at .derived .ensures in
     let accepts : verdict (a .t) (a .m) ≡ Accepts = sym (told v) ∙ accepted (done .before) .enum-told .given .1 in
     let stands = laid-out (a .t) (a .m) d (at .lay .ensures) in
-    let g = done .guarded .ensures (a .t) (unused (a .m)) (a .m) (table-good _ _ d) (words .0) (words .1) refl (head-firm _ (a .t) (known v .head-of .ensures)) refl stands in
+    let firm = head-firm _ (a .t) (known v .head-of .ensures) in
+    let g = done .guarded .ensures (a .t) (unused (a .m)) (a .m) (table-good _ _ d) (words .0) (words .1) refl firm refl stands in
     let next = rw (← c .before .before .before .tick .ensures .1) at (g .0) in
     answered-is (caused (a .t) (a .m)) (guarded (a .t) (a .m)) _ (g .1)
     (given-back (a .t) (a .m) d _ _ _ (c .give .ensures) next)

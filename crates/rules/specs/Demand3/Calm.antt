@@ -25,7 +25,8 @@ use Rattle.rules.specs.Laws.Tests.{decide, clash, join}
 use Rattle.rules.specs.Laws.Counting.{some-not}
 use Rattle.rules.specs.Laws.Numbers.{both-done, if-done}
 use Rattle.rules.specs.Demand3.Records.{due-is}
-use Rattle.rules.specs.Demand3.Facts.{effect-events, time-events, deadline-stays, deadline-no-later, time-pending, time-bounded, time-included, time-deadline}
+use Rattle.rules.specs.Demand3.Facts.{effect-events, time-events, deadline-stays, deadline-no-later}
+use Rattle.rules.specs.Demand3.Facts.{time-pending, time-bounded, time-included, time-deadline}
 use Rattle.rules.specs.Demand3.Invariant.{Static, Invariant, effect-keeps, time-keeps}
 use Rattle.rules.specs.Demand3.Guarded.{caused-calm}
 use Rattle.rules.specs.Demand3.Leading.{after-acts}

@@ -123,15 +123,21 @@ flush-settles =
 abbrev firmP : Table
 firmP = shop.firmly shop.P
 
+abbrev firmSteps : List Step
+firmSteps = shop.leakTwice ++ (shop.guarded ∷ shop.guarded ∷ [])
+
 abbrev untilRepeat : List Act
 untilRepeat = executes 0 ∷ passes ∷ passes ∷ executes 0 ∷ []
 
+abbrev afterRepeat : List Act
+afterRepeat = passes ∷ executes 2 ∷ executes 4 ∷ executes 1 ∷ passes ∷ []
+
 firm-accepted : check firmP shop.start ≡ Accepts
-unfolding check judged tableNumber relationNumber timeFits markingNumberFor markingNumber stateFits countFits recordFits every some lowest howMany repeated firstOf has
-    setOf busy follows widened widenedFully closure unreportable uncausable waiting awaited onCycle reopening reviving verdict
+unfolding check judged tableNumber relationNumber timeFits markingNumberFor markingNumber stateFits countFits recordFits every some lowest howMany repeated
+    firstOf has setOf busy follows widened widenedFully closure unreportable uncausable waiting awaited onCycle reopening reviving verdict
 firm-accepted = refl
 
-firm-history : historyOf firmP shop.start (shop.leakTwice ++ (shop.guarded ∷ shop.guarded ∷ [])) ≡ untilRepeat ++ (passes ∷ executes 2 ∷ executes 4 ∷ executes 1 ∷ passes ∷ [])
+firm-history : historyOf firmP shop.start firmSteps ≡ untilRepeat ++ afterRepeat
 unfolding historyOf actsOf thenPass every some lowest howMany repeated belowFrom firstOf has setOf stops blocks isEnabled withDeadline excludes
     includes given smallest executed withInclusion effectAt effect isDue anyDue dueSet later time plainTickNumber requestNumber reportNumber
     busy follows widened widenedFully closure unreportable uncausable waiting awaited onCycle reopening reviving verdict holdsBack needed ready
@@ -142,11 +148,12 @@ firm-duty : Duty (after firmP shop.start untilRepeat) 1 1
 unfolding after time later effect effectAt executed withInclusion withDeadline excludes includes given smallest some belowFrom
 firm-duty = record { included = refl; pending = refl; bounded = refl; within = omega arith }
 
-two-passes : 1 < passesIn (passes ∷ executes 2 ∷ executes 4 ∷ executes 1 ∷ passes ∷ [])
+two-passes : 1 < passesIn afterRepeat
 unfolding passesIn
 two-passes = omega arith
 
 -- .. of which flush is executed, or excluded, before the second passes
 pub firm-flush-met : Met firmP (Ends firmP 1) (after firmP shop.start (executes 0 ∷ passes ∷ passes ∷ executes 0 ∷ [])) 1
     (passes ∷ executes 2 ∷ executes 4 ∷ executes 1 ∷ passes ∷ [])
-firm-flush-met = deadline-kept-firm firmP shop.start firm-accepted refl (shop.leakTwice ++ (shop.guarded ∷ shop.guarded ∷ [])) untilRepeat _ firm-history 1 1 (omega arith) firm-duty two-passes
+firm-flush-met =
+    deadline-kept-firm firmP shop.start firm-accepted refl firmSteps untilRepeat afterRepeat firm-history 1 1 (omega arith) firm-duty two-passes
