@@ -16,10 +16,11 @@ use Rattle.rules.specs.declared.MarkingAnswer.{MarkingAnswer}
 use Rattle.rules.specs.declared.EnabledAnswer.{EnabledAnswer}
 use Rattle.rules.specs.declared.SetAnswer.{SetAnswer}
 use Rattle.rules.specs.declared.ClosureAnswer.{ClosureAnswer}
+use Rattle.rules.specs.declared.Rest.the-variants.{Never as never, By as byTicks}
 use Rattle.rules.specs.declared.MarginAnswer.{MarginAnswer}
-use Rattle.rules.specs.declared.MarginAnswer.the-variants.{NotACondition, Never, By}
+use Rattle.rules.specs.declared.MarginAnswer.the-variants.{NotACondition, Ignored, Never, By}
 use Rattle.rules.specs.declared.HoldUpAnswer.{HoldUpAnswer}
-use Rattle.rules.specs.declared.HoldUpAnswer.the-variants.{Excluded, Blocked}
+use Rattle.rules.specs.declared.HoldUpAnswer.the-variants.{Enabled, EnabledUnless, Excluded, Blocked}
 use Rattle.rules.specs.declared.CheckAnswer.{CheckAnswer}
 use Rattle.rules.specs.declared.CheckAnswer.the-variants.{Accepts, Rejects}
 use Rattle.rules.specs.declared.ToldMargin.{ToldMargin}
@@ -42,8 +43,8 @@ use Rattle.rules.specs.Enabled.{stops, blocks, isEnabled, enabledAnswer}
 use Rattle.rules.specs.Effect.{withDeadline, excludes, includes, given, smallest, executed, withInclusion, effectAt, effect}
 use Rattle.rules.specs.Time.{isDue, anyDue, dueSet, later, time, plainTickNumber, plainTick, dueAnswer}
 use Rattle.rules.specs.Ask.{requestNumber, reportNumber, request, report}
-use Rattle.rules.specs.Margin.{marginOf, margin, toldMargin}
-use Rattle.rules.specs.HoldUp.{holdUpOf, holdUp, toldHoldUp}
+use Rattle.rules.specs.Margin.{restOf, marginOf, margin, toldMargin}
+use Rattle.rules.specs.HoldUp.{wouldBlock, holdUpOf, holdUp, toldHoldUp}
 use Rattle.rules.specs.Closure.{busy, follows, widened, widenedFully, closure, closureAnswer}
 use Rattle.rules.specs.Check.{unreportable, uncausable, waiting, awaited, onCycle, reopening, reviving, verdict, check, reasonOf, placeOf, toldCheck}
 use Rattle.rules.specs.Guard.{holdsBack, needed, ready, orderOf, taken, takenAll, executedOf, caused, guarded, guardedTick}
@@ -472,10 +473,57 @@ firm =
         t : Table
         t = shop.table 2 3 3 (k ∷ [])
 
+-- Right events that are excluded
+unfoldable pub returning : List Case
+returning =
+    -- ignored, and else never; or by -2, 0, 4. Not never; not 0 ticks
+    alone shop.idle (margins 0) (by (Ignored never))
+    ∷ alone (shop.happened 3) (margins 0) (by (Ignored (byTicks (negsuc 1))))
+    ∷ alone (shop.happened 5) (margins 0) (by (Ignored (byTicks (pos 0))))
+    ∷ alone (shop.happened 9) (margins 0) (by (Ignored (byTicks (pos 4))))
+    -- what is no condition is not ignored
+    ∷ asks oneMilestone (shop.marking (shop.idle ∷ shop.away shop.eventuallyPending ∷ [])) (margins 0) (by NotACondition)
+    -- hold-up: enabled, unless it returns that has not happened, or not long enough ago; long enough ago it may return. Not enabled alone; not blocked
+    ∷ alone shop.idle (held 0) (hold (EnabledUnless 0))
+    ∷ alone (shop.happened 4) (held 0) (hold (EnabledUnless 0))
+    ∷ alone (shop.happened 5) (held 0) (hold Enabled)
+    -- a milestone, pending and not
+    ∷ asks oneMilestone (shop.marking (shop.idle ∷ shop.away shop.eventuallyPending ∷ [])) (held 0) (hold (EnabledUnless 0))
+    ∷ asks oneMilestone (shop.marking (shop.idle ∷ shop.excluded ∷ [])) (held 0) (hold Enabled)
+    -- the lowest that would block, past one that would not; of two that would, the lower. Not 0; not 1
+    ∷ asks twoConditions (shop.marking (shop.idle ∷ shop.away (shop.happened 9) ∷ shop.excluded ∷ [])) (held 0) (hold (EnabledUnless 1))
+    ∷ asks twoConditions (shop.marking (shop.idle ∷ shop.excluded ∷ shop.excluded ∷ [])) (held 0) (hold (EnabledUnless 0))
+    -- one that blocks comes before a lower one that only would. Not 0; not enabled
+    ∷ asks twoConditions (shop.marking (shop.idle ∷ shop.excluded ∷ shop.idle ∷ [])) (held 0) (hold (Blocked 1))
+    -- an event that is itself excluded. Not enabled
+    ∷ asks twoConditions (shop.marking (shop.excluded ∷ shop.excluded ∷ shop.excluded ∷ [])) (held 0) (hold Excluded)
+    -- only its own relations count. Not 0
+    ∷ alone shop.idle (held 1) (hold Excluded)
+    ∷ asks shop.waits5 (shop.marking (shop.excluded ∷ shop.idle ∷ [])) (held 1) (hold Enabled)
+    -- in numbers: no ticks where it would be never, the ticks where it would be by; the relation that would block. Not a number for never; not kind 3
+    ∷ alone shop.idle (marginTold 0) (toldBy (record { number = 0; kind = 1; ticks = pos 0 }))
+    ∷ alone (shop.happened 3) (marginTold 0) (toldBy (record { number = 0; kind = 4; ticks = negsuc 1 }))
+    ∷ asks twoConditions (shop.marking (shop.idle ∷ shop.away (shop.happened 9) ∷ shop.excluded ∷ [])) (holdUpTold 0)
+    (toldHold (record { number = 0; kind = 3; relation = 1 }))
+    ∷ alone (shop.happened 5) (holdUpTold 0) (toldHold (record { number = 0; kind = 0; relation = 0 }))
+    -- enabledness does not ask what would be. Not false
+    ∷ alone shop.idle (enabledNow 0) (enables (record { number = 0; enabled = true }))
+    ∷ []
+  where
+    -- event 0 waits five ticks for event 1, which is away
+    alone : Record → Question → Answer → Case
+    alone right = asks shop.waits5 (shop.marking (shop.idle ∷ shop.away right ∷ []))
+
+    oneMilestone : Table
+    oneMilestone = shop.table 2 3 3 (shop.milestone 0 1 ∷ [])
+
+    twoConditions : Table
+    twoConditions = shop.table 3 7 7 (shop.condition 0 1 5 ∷ shop.condition 0 2 0 ∷ [])
+
 unfoldable pub cases : List Case
-cases = worked ++ mistakes ++ turning ++ firm
+cases = worked ++ mistakes ++ turning ++ firm ++ returning
 
 -- every case is answered as told
 pub told-right : map (λ c. answer (c .table) (c .marking) (c .asked)) cases ≡ map (λ c. c .told) cases
-unfolding cases worked mistakes turning firm answer causedIn every some lowest howMany repeated placesFrom belowFrom firstOf has setOf sizeOf lowestOf field bytesOf timeFits relationNumber tableNumber stateFits countFits recordFits markingNumber markingNumberFor judged relationAt relationImageNumber tableImageNumber tableIn readTable recordAt markingImageNumber readMarking headerImage classImage relationImage writeTableNumber writeTable recordImage carriedAt carried carryNumber carryMarking pieces stops blocks isEnabled withDeadline excludes includes given smallest executed withInclusion effectAt effect isDue anyDue dueSet later time plainTickNumber plainTick requestNumber reportNumber request marginOf margin holdUpOf holdUp busy follows widened widenedFully closure closureAnswer unreportable uncausable waiting awaited onCycle reopening reviving verdict check holdsBack needed ready orderOf taken takenAll executedOf caused guarded guardedTick inTurn effects discharges shortest remedyNumber remedy stepNumber stepDone stepped endOf answersOf traceNumber stepsIn station writeNumber writeMarking fresh enabledAnswer dueAnswer report run runAnswers runBytes runBytesAnswers toldMargin toldHoldUp reasonOf placeOf toldCheck tableOf markingOf imagesNumber fieldsNumber fieldsTold relationFrom numbersNumber tableFrom buildNumber build relationToldNumber relationTold classToldNumber heardNumber heardBytes heardOutput
+unfolding cases worked mistakes turning firm returning answer causedIn every some lowest howMany repeated placesFrom belowFrom firstOf has setOf sizeOf lowestOf field bytesOf timeFits relationNumber tableNumber stateFits countFits recordFits markingNumber markingNumberFor judged relationAt relationImageNumber tableImageNumber tableIn readTable recordAt markingImageNumber readMarking headerImage classImage relationImage writeTableNumber writeTable recordImage carriedAt carried carryNumber carryMarking pieces stops blocks isEnabled withDeadline excludes includes given smallest executed withInclusion effectAt effect isDue anyDue dueSet later time plainTickNumber plainTick requestNumber reportNumber request restOf marginOf margin wouldBlock holdUpOf holdUp busy follows widened widenedFully closure closureAnswer unreportable uncausable waiting awaited onCycle reopening reviving verdict check holdsBack needed ready orderOf taken takenAll executedOf caused guarded guardedTick inTurn effects discharges shortest remedyNumber remedy stepNumber stepDone stepped endOf answersOf traceNumber stepsIn station writeNumber writeMarking fresh enabledAnswer dueAnswer report run runAnswers runBytes runBytesAnswers toldMargin toldHoldUp reasonOf placeOf toldCheck tableOf markingOf imagesNumber fieldsNumber fieldsTold relationFrom numbersNumber tableFrom buildNumber build relationToldNumber relationTold classToldNumber heardNumber heardBytes heardOutput
 told-right = refl

@@ -13,6 +13,7 @@ pub mod Written
 pub mod Granted
 pub mod Time
 pub mod Ask
+pub mod Including
 pub mod Margin
 pub mod HoldUp
 pub mod Widened

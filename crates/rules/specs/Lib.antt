@@ -12,6 +12,7 @@ pub mod Enabled
 pub mod Effect
 pub mod Time
 pub mod Ask
+pub mod Including
 pub mod Margin
 pub mod HoldUp
 pub mod Closure

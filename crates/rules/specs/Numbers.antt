@@ -4,11 +4,12 @@ use mathlib.Core.Bool.{Bool, true, false, cond}
 use Prim.Native.Nat.{ℕ, zero, suc}
 use lib.Dec.{eqb}
 use lib.IntN.{pos}
+use Rattle.rules.specs.declared.Rest.the-variants.{Never as never, By as by}
 use Rattle.rules.specs.declared.MarginAnswer.{MarginAnswer}
 use Rattle.rules.specs.declared.MarginAnswer.the-variants.{Refused as refusedMargin, NotACondition, Ignored, Never, By}
 use Rattle.rules.specs.declared.ToldMargin.{ToldMargin}
 use Rattle.rules.specs.declared.HoldUpAnswer.{HoldUpAnswer}
-use Rattle.rules.specs.declared.HoldUpAnswer.the-variants.{Refused as refusedHoldUp, Enabled, Excluded, Blocked}
+use Rattle.rules.specs.declared.HoldUpAnswer.the-variants.{Refused as refusedHoldUp, Enabled, EnabledUnless, Excluded, Blocked}
 use Rattle.rules.specs.declared.ToldHoldUp.{ToldHoldUp}
 use Rattle.rules.specs.declared.CheckAnswer.{CheckAnswer}
 use Rattle.rules.specs.declared.CheckAnswer.the-variants.{Refused as refusedCheck, Accepts, Rejects}
@@ -36,18 +37,22 @@ module _ {A : Type 0} where
   abbrev pub done : ℕ → A → A → A
   done number a refused = cond (eqb number 0) a refused
 
--- margin: 0 not a condition, 1 ignored, 2 never, 3 by age minus time; the ticks are 0 in any other case
+-- margin: 0 not a condition, 1 ignored and else never, 2 never, 3 by age minus time, 4 ignored and else by that; the ticks are 0 in any other
+-- case
 abbrev pub marginInNumbers : MarginAnswer → ToldMargin
 marginInNumbers (refusedMargin number) = record { number = number; kind = 0; ticks = pos 0 }
 marginInNumbers NotACondition = record { number = 0; kind = 0; ticks = pos 0 }
-marginInNumbers Ignored = record { number = 0; kind = 1; ticks = pos 0 }
+marginInNumbers (Ignored never) = record { number = 0; kind = 1; ticks = pos 0 }
+marginInNumbers (Ignored (by ticks)) = record { number = 0; kind = 4; ticks = ticks }
 marginInNumbers Never = record { number = 0; kind = 2; ticks = pos 0 }
 marginInNumbers (By ticks) = record { number = 0; kind = 3; ticks = ticks }
 
--- hold-up: 0 enabled, 1 excluded, 2 blocked by a relation; the relation is 0 in any other case
+-- hold-up: 0 enabled, 1 excluded, 2 blocked by a relation, 3 enabled unless the right event of a relation returns; the relation is 0 in any
+-- other case
 abbrev pub holdUpInNumbers : HoldUpAnswer → ToldHoldUp
 holdUpInNumbers (refusedHoldUp number) = record { number = number; kind = 0; relation = 0 }
 holdUpInNumbers Enabled = record { number = 0; kind = 0; relation = 0 }
+holdUpInNumbers (EnabledUnless relation) = record { number = 0; kind = 3; relation = relation }
 holdUpInNumbers Excluded = record { number = 0; kind = 1; relation = 0 }
 holdUpInNumbers (Blocked relation) = record { number = 0; kind = 2; relation = relation }
 

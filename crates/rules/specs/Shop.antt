@@ -76,6 +76,18 @@ happenedTimes a n = record { age = a; deadline = 0; happened = true; included = 
 abbrev pub happened : ℕ → Record
 happened a = happenedTimes a 1
 
+-- the same record, its event excluded
+abbrev pub away : Record → Record
+away r = record {
+  age = r .age;
+  deadline = r .deadline;
+  happened = r .happened;
+  included = false;
+  pending = r .pending;
+  bounded = r .bounded;
+  count = r .count;
+}
+
 -- steps
 abbrev pub request : ℕ → Step
 request e = record { kind = 0; event = e }

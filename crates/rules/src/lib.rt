@@ -77,17 +77,26 @@ pub struct ClosureAnswer {
     pub size: u32,
 }
 
-pub enum MarginAnswer {
-    Refused(u8),
-    NotACondition,
-    Ignored,
+// What a condition with an included right event answers.
+pub enum Rest {
     Never,
     By(i32),
 }
 
+// A condition whose right event is excluded is ignored; the rest is what it would answer if that event were included.
+pub enum MarginAnswer {
+    Refused(u8),
+    NotACondition,
+    Ignored(Rest),
+    Never,
+    By(i32),
+}
+
+// Enabled unless: the relation would block if its right event were included.
 pub enum HoldUpAnswer {
     Refused(u8),
     Enabled,
+    EnabledUnless(usize),
     Excluded,
     Blocked(usize),
 }

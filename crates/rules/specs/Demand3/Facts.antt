@@ -22,7 +22,7 @@ use Rattle.rules.specs.Laws.Tests.{clash, denied, both, join}
 use Rattle.rules.specs.Laws.Counting.{some-where, length-each-below, each-below-changed}
 use Rattle.rules.specs.Laws.Numbers.{if-kept, both-done, first-done}
 use Rattle.rules.specs.Shapes.Good.{GoodTable}
-use Rattle.rules.specs.Laws.Judge.{good}
+use Rattle.rules.specs.Laws.Judge.{good, judged-again}
 use Rattle.rules.specs.Demand3.Response.{asked, Responds, response-gives}
 use Rattle.rules.specs.Demand3.Records.{underDeadline, ranOut, at-included, at-happened, at-pending, at-under, at-out}
 use Rattle.rules.specs.Demand3.Records.{at-count, at-fits, at-undisturbed, at-no-later, later-fits}
@@ -206,23 +206,10 @@ module _ (m : Marking) (x : ℕ) (b : x < m .events) where
   pub time-fits : recordFits (recordOf m x) ≡ true → recordFits (recordOf (time m) x) ≡ true
   time-fits h = subst (λ r. recordFits r ≡ true) (sym at-time) (later-fits (recordOf m x) h)
 
-again : (t : Table) (m n : Marking) → judged t m ≡ 0 → n .events ≡ m .events
-    → ((x : ℕ) → x < m .events → recordFits (recordOf m x) ≡ true → recordFits (recordOf n x) ≡ true) → judged t n ≡ 0
-unfolding judged markingNumberFor markingNumber
-again t m n h same fits =
-    let p = both-done (tableNumber t) (markingNumberFor (t .events) m) h in
-    let g = good t m h in
-    let events : m .events ≡ t .events = g .marking-good .same-events in
-    let few : eventsFit (t .events) ≡ true =
-    join (le-leb 1 (t .events) (g .table-good .some-events)) (le-leb (t .events) mostEvents (g .table-good .few-events)) in
-    rw (p .0, few, same ∙ events, eq-eqb (t .events) (t .events) refl, few)
-    (first-done (λ e. recordNumber (recordOf n e)) (t .events)
-    (λ x b. if-kept 7 (ap not (fits x (rw events b) (g .marking-good .records-fit x b)))))
-
 pub effect-judged : (t : Table) (m : Marking) (e : ℕ) → judged t m ≡ 0 → judged t (effect t m e) ≡ 0
 unfolding effect
-effect-judged t m e h = again t m (effect t m e) h refl (λ x b. effect-fits t m e x b (good t m h .table-good))
+effect-judged t m e h = judged-again t m (effect t m e) h refl (λ x b. effect-fits t m e x b (good t m h .table-good))
 
 pub time-judged : (t : Table) (m : Marking) → judged t m ≡ 0 → judged t (time m) ≡ 0
 unfolding time
-time-judged t m h = again t m (time m) h refl (time-fits m)
+time-judged t m h = judged-again t m (time m) h refl (time-fits m)

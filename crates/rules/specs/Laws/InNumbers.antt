@@ -1,6 +1,6 @@
 -- An answer that is an enum, told in numbers, is what its rule says in numbers. Assumes nothing.
 use mathlib.Core.Path.{_≡_, refl, ap, _∙_}
-use mathlib.Core.Bool.{Bool, true, false, not, cond}
+use mathlib.Core.Bool.{Bool, true, false, not, _||_, cond}
 use Prim.Native.Nat.{ℕ, zero, suc}
 use native.Mathlib.Omega.{arith}
 use borrow.Author.Tests.{ne-eqb}
@@ -8,10 +8,11 @@ use lib.Dec.{eqb, ltb}
 use lib.IntN.{ℤ, pos, _-ℤ_}
 use Rattle.rules.specs.declared.Table.{Table}
 use Rattle.rules.specs.declared.Marking.{Marking}
+use Rattle.rules.specs.declared.Rest.the-variants.{Never as never, By as by}
 use Rattle.rules.specs.declared.MarginAnswer.{MarginAnswer}
-use Rattle.rules.specs.declared.MarginAnswer.the-variants.{Refused as refusedMargin, NotACondition, Ignored, Never, By}
+use Rattle.rules.specs.declared.MarginAnswer.the-variants.{Refused as refusedMargin, NotACondition, Ignored}
 use Rattle.rules.specs.declared.HoldUpAnswer.{HoldUpAnswer}
-use Rattle.rules.specs.declared.HoldUpAnswer.the-variants.{Refused as refusedHoldUp, Enabled, Excluded, Blocked}
+use Rattle.rules.specs.declared.HoldUpAnswer.the-variants.{Refused as refusedHoldUp, Enabled, EnabledUnless, Excluded, Blocked}
 use Rattle.rules.specs.declared.CheckAnswer.{CheckAnswer}
 use Rattle.rules.specs.declared.CheckAnswer.the-variants.{Refused as refusedCheck, Accepts, Rejects}
 use Rattle.rules.specs.Counting.{some, lowest}
@@ -19,8 +20,8 @@ use Rattle.rules.specs.Numbers.{_if_, _else_, done, marginInNumbers, hol
 use Rattle.rules.specs.Holds.{isCondition, relationOf, recordOf}
 use Rattle.rules.specs.Judge.{judged, eventNumber}
 use Rattle.rules.specs.Enabled.{blocks}
-use Rattle.rules.specs.Margin.{marginOf, margin, toldMargin}
-use Rattle.rules.specs.HoldUp.{holdUpOf, holdUp, toldHoldUp}
+use Rattle.rules.specs.Margin.{restOf, outright, marginOf, margin, toldMargin}
+use Rattle.rules.specs.HoldUp.{wouldBlock, holdUpOf, holdUp, toldHoldUp}
 use Rattle.rules.specs.Closure.{closure}
 use Rattle.rules.specs.Check.{unreportable, uncausable, waiting, onCycle, reopening, reviving, verdict, check, reasonOf, placeOf, toldCheck}
 use Rattle.rules.specs.Laws.Counting.{lowest-some}
@@ -31,7 +32,7 @@ not-done number = ne-eqb (suc number) 0 (λ e. omega (arith, e))
 module _ (t : Table) (m : Marking) where
   -- each by its tests
   pub margin-in-numbers : (k : ℕ) → marginInNumbers (margin t m k) ≡ toldMargin t m k
-  unfolding margin marginOf toldMargin
+  unfolding margin restOf marginOf toldMargin
   margin-in-numbers k =
       let relation = relationOf t k in
       let right = recordOf m (relation .right) in
@@ -39,29 +40,37 @@ module _ (t : Table) (m : Marking) where
     where
       go : (number : ℕ) (condition included happened : Bool) (ticks : ℤ)
           → marginInNumbers
-          (done number (cond (not condition) NotACondition (cond (not included) Ignored (cond (not happened) Never (By ticks)))) (refusedMargin number))
-          ≡ (let kind : ℕ = done number (cond (not condition) 0 (cond (not included) 1 (cond (not happened) 2 3))) 0 in
-          record { number = number; kind = kind; ticks = cond (eqb kind 3) ticks (pos 0) })
+          (let rest = cond (not happened) never (by ticks) in
+          done number (cond (not condition) NotACondition (cond (not included) (Ignored rest) (outright rest))) (refusedMargin number))
+          ≡ (let ignored : ℕ = cond (not happened) 1 4 in
+          let kind : ℕ = done number (cond (not condition) 0 (cond (not included) ignored (cond (not happened) 2 3))) 0 in
+          record { number = number; kind = kind; ticks = cond (eqb kind 3 || eqb kind 4) ticks (pos 0) })
       go (suc number) condition included happened ticks = rw (not-done number)
       go zero false included happened ticks = refl
-      go zero true false happened ticks = refl
+      go zero true false false ticks = refl
+      go zero true false true ticks = refl
       go zero true true false ticks = refl
       go zero true true true ticks = refl
 
   pub hold-up-in-numbers : (e : ℕ) → holdUpInNumbers (holdUp t m e) ≡ toldHoldUp t m e
   unfolding holdUp holdUpOf toldHoldUp
   hold-up-in-numbers e =
-      rw lowest-some
-      (go (judged t m else eventNumber t e) (recordOf m e .included) (some (t .count) (blocks t m e)) (lowest (t .count) (blocks t m e)))
+      rw (lowest-some (blocks t m e) (t .count), lowest-some (wouldBlock t m e) (t .count))
+      (go (judged t m else eventNumber t e) (recordOf m e .included)
+      (some (t .count) (blocks t m e)) (some (t .count) (wouldBlock t m e))
+      (lowest (t .count) (blocks t m e)) (lowest (t .count) (wouldBlock t m e)))
     where
-      go : (number : ℕ) (included blocked : Bool) (first : ℕ)
-          → holdUpInNumbers (done number (cond (not included) Excluded (cond blocked (Blocked first) Enabled)) (refusedHoldUp number))
-          ≡ (let kind : ℕ = done number (cond (not included) 1 (cond blocked 2 0)) 0 in
-          record { number = number; kind = kind; relation = cond (eqb kind 2) first 0 })
-      go (suc number) included blocked first = rw (not-done number)
-      go zero false blocked first = refl
-      go zero true true first = refl
-      go zero true false first = refl
+      go : (number : ℕ) (included blocked would : Bool) (first unless : ℕ)
+          → holdUpInNumbers
+          (done number (cond (not included) Excluded (cond blocked (Blocked first) (cond would (EnabledUnless unless) Enabled))) (refusedHoldUp number))
+          ≡ (let enabled : ℕ = cond would 3 0 in
+          let kind : ℕ = done number (cond (not included) 1 (cond blocked 2 enabled)) 0 in
+          record { number = number; kind = kind; relation = cond (eqb kind 2) first (cond (eqb kind 3) unless 0) })
+      go (suc number) included blocked would first unless = rw (not-done number)
+      go zero false blocked would first unless = refl
+      go zero true true would first unless = refl
+      go zero true false true first unless = refl
+      go zero true false false first unless = refl
 
   pub check-in-numbers : checkInNumbers (check t m) ≡ toldCheck t m
   unfolding check verdict reasonOf placeOf toldCheck

@@ -1,9 +1,9 @@
--- What a table and a marking that are judged 'done' satisfy. Assumes nothing.
-use mathlib.Core.Path.{_≡_}
-use mathlib.Core.Bool.{not, _&&_}
-use Prim.Native.Nat.{ℕ}
+-- What a table and a marking that are judged 'done' satisfy, and what keeps them so. Assumes nothing.
+use mathlib.Core.Path.{_≡_, refl, _∙_, ap}
+use mathlib.Core.Bool.{true, not, _&&_}
+use Prim.Native.Nat.{ℕ, _<_}
 use lib.Dec.{eqb, leb, ltb}
-use borrow.Author.Tests.{leb-true, ltb-true, eqb-true}
+use borrow.Author.Tests.{leb-true, ltb-true, eqb-true, eq-eqb, le-leb}
 use Rattle.rules.specs.declared.Relation.{Relation}
 use Rattle.rules.specs.declared.Table.{Table}
 use Rattle.rules.specs.declared.Marking.{Marking}
@@ -12,8 +12,8 @@ use Rattle.rules.specs.Holds.{mostEvents, mostRelations, relationOf, rec
 use Rattle.rules.specs.Judge.{eventsFit, relationsFit, timeFits, relationNumber, tableNumber, recordFits, recordNumber, markingNumber, markingNumberFor}
 use Rattle.rules.specs.Judge.{judged}
 use Rattle.rules.specs.Shapes.Good.{GoodRelation, GoodTable, GoodMarking, Good}
-use Rattle.rules.specs.Laws.Tests.{both, not-false}
-use Rattle.rules.specs.Laws.Numbers.{if-done, both-done, first-each}
+use Rattle.rules.specs.Laws.Tests.{both, join, not-false}
+use Rattle.rules.specs.Laws.Numbers.{if-done, if-kept, both-done, first-each, first-done}
 
 good-relation : (events : ℕ) (k : Relation) → relationNumber events k ≡ 0 → GoodRelation events k
 unfolding relationNumber
@@ -65,3 +65,17 @@ unfolding judged
 good t m h =
     let p = both-done (tableNumber t) (markingNumberFor (t .events) m) h in
     record { table-good = good-table t (p .0); marking-good = good-marking (t .events) m (p .1) }
+
+-- with other records that fit it is judged 'done' again
+pub judged-again : (t : Table) (m n : Marking) → judged t m ≡ 0 → n .events ≡ m .events
+    → ((x : ℕ) → x < m .events → recordFits (recordOf m x) ≡ true → recordFits (recordOf n x) ≡ true) → judged t n ≡ 0
+unfolding judged markingNumberFor markingNumber
+judged-again t m n h same fits =
+    let p = both-done (tableNumber t) (markingNumberFor (t .events) m) h in
+    let g = good t m h in
+    let events : m .events ≡ t .events = g .marking-good .same-events in
+    let few : eventsFit (t .events) ≡ true =
+    join (le-leb 1 (t .events) (g .table-good .some-events)) (le-leb (t .events) mostEvents (g .table-good .few-events)) in
+    rw (p .0, few, same ∙ events, eq-eqb (t .events) (t .events) refl, few)
+    (first-done (λ e. recordNumber (recordOf n e)) (t .events)
+    (λ x b. if-kept 7 (ap not (fits x (rw events b) (g .marking-good .records-fit x b)))))

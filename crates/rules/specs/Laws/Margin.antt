@@ -1,6 +1,6 @@
--- Age minus time: within the limit, what it says below, at and above zero, and that a condition stops its left event exactly while its margin
--- is below zero or never. Assumes nothing.
-use mathlib.Core.Path.{_≡_, refl, _∙_}
+-- Age minus time: within the limit, what it says below, at and above zero; that a condition stops its left event exactly while its margin is
+-- below zero or never; and that the rest of an ignored margin is the margin where the right event is included. Assumes nothing.
+use mathlib.Core.Path.{_≡_, refl, _∙_, ap, sym}
 use mathlib.Core.Bool.{Bool, true, false, not, cond}
 use Prim.Native.Nat.{ℕ, zero, suc, _-_, _≤_, _<_, zero-le}
 use native.Mathlib.Nat.{sub-zero, add-zero}
@@ -10,12 +10,24 @@ use lib.Dec.{leb, ltb}
 use lib.IntN.{ℤ, pos, negsuc, _-ℤ_, subℕ}
 use lib.Signed.{mag}
 use Rattle.rules.specs.declared.Relation.{Relation}
+use Rattle.rules.specs.declared.Table.{Table}
 use Rattle.rules.specs.declared.Record.{Record}
+use Rattle.rules.specs.declared.Marking.{Marking}
+use Rattle.rules.specs.declared.Rest.{Rest}
+use Rattle.rules.specs.declared.Rest.the-variants.{Never as never, By as by}
 use Rattle.rules.specs.declared.MarginAnswer.{MarginAnswer}
 use Rattle.rules.specs.declared.MarginAnswer.the-variants.{Refused, NotACondition, Ignored, Never, By}
+use Rattle.rules.specs.Numbers.{_if_, _else_, done}
+use Rattle.rules.specs.Holds.{isCondition, relationOf, recordOf}
+use Rattle.rules.specs.Judge.{judged}
 use Rattle.rules.specs.Enabled.{stops}
-use Rattle.rules.specs.Margin.{marginOf}
-use Rattle.rules.specs.Laws.Tests.{or-false}
+use Rattle.rules.specs.Including.{asIncluded, including}
+use Rattle.rules.specs.Margin.{restOf, outright, marginOf, margin}
+use Rattle.rules.specs.Laws.Tests.{clash, not-false, or-false}
+use Rattle.rules.specs.Laws.Numbers.{if-done, both-done, by-number}
+use Rattle.rules.specs.Laws.Judge.{good}
+use Rattle.rules.specs.Laws.Granted.{right-told}
+use Rattle.rules.specs.Laws.Including.{including-own, including-judged}
 
 by-sign : (a b : ℕ) → pos a -ℤ pos b ≡ subℕ a b
 by-sign a zero = simp (le-ltb a 0 zero-le, sub-zero, add-zero)
@@ -45,7 +57,7 @@ belowZero (negsuc n) = true
 abbrev pub waits : MarginAnswer → Bool
 waits (Refused number) = false
 waits NotACondition = false
-waits Ignored = false
+waits (Ignored rest) = false
 waits Never = true
 waits (By ticks) = belowZero ticks
 
@@ -57,7 +69,7 @@ late a b = go (ltb a b) refl
     go false e = rw (le-leb b a (ltb-false a b e), minus-holds a b (ltb-false a b e))
 
 pub margin-stops : (k : Relation) (r : Record) → k .kind ≡ 1 → stops k r ≡ waits (marginOf k r)
-unfolding stops marginOf
+unfolding stops restOf marginOf
 margin-stops k r condition = rw condition (go (r .included) (r .happened) refl refl)
   where
     go : (i h : Bool) → r .included ≡ i → r .happened ≡ h
@@ -66,3 +78,54 @@ margin-stops k r condition = rw condition (go (r .included) (r .happened) refl r
     go false h p q = rw p
     go true false p q = rw (p, q)
     go true true p q = rw (p, q) (or-false (not (leb (k .time) (r .age))) ∙ late (r .age) (k .time))
+
+-- Ignored: an answer that is so, and its rest
+abbrev isIgnored : MarginAnswer → Bool
+isIgnored (Refused number) = false
+isIgnored NotACondition = false
+isIgnored (Ignored rest) = true
+isIgnored Never = false
+isIgnored (By ticks) = false
+
+abbrev restIn : MarginAnswer → Rest
+restIn (Refused number) = never
+restIn NotACondition = never
+restIn (Ignored rest) = rest
+restIn Never = never
+restIn (By ticks) = never
+
+not-outright : (rest : Rest) → isIgnored (outright rest) ≡ false
+not-outright never = refl
+not-outright (by ticks) = refl
+
+-- of one condition: its answer goes by the record alone
+as-included : (k : Relation) (r : Record) {rest : Rest} → marginOf k r ≡ Ignored rest → marginOf k (asIncluded r) ≡ outright rest
+unfolding restOf marginOf
+as-included k r {rest} = go (isCondition k) (r .included)
+  where
+    go : (condition included : Bool)
+        → cond (not condition) NotACondition (cond (not included) (Ignored (restOf k r)) (outright (restOf k r))) ≡ Ignored rest
+        → cond (not condition) NotACondition (outright (restOf k r)) ≡ outright rest
+    go false included is = absurd (clash (ap isIgnored is) refl)
+    go true true is = absurd (clash (ap isIgnored is) (not-outright (restOf k r)))
+    go true false is = ap (λ a. outright (restIn a)) is
+
+pub ignored-as-included : (t : Table) (m : Marking) (k : ℕ) {rest : Rest} → margin t m k ≡ Ignored rest
+    → margin t (including (relationOf t k .right) m) k ≡ outright rest
+unfolding margin
+ignored-as-included t m k {rest} is = by-number number granted (λ refused. absurd (clash (ap isIgnored is) (rw refused)))
+  where
+    number : ℕ
+    number = judged t m else 8 if not (ltb k (t .count))
+
+    right : ℕ
+    right = relationOf t k .right
+
+    granted : number ≡ 0 → margin t (including right m) k ≡ outright rest
+    granted z =
+        let p = both-done (judged t m) (8 if not (ltb k (t .count))) z in
+        let used = ltb-true k (t .count) (not-false (ltb k (t .count)) (if-done 7 (not (ltb k (t .count))) (p .1))) in
+        let shown : marginOf (relationOf t k) (recordOf m right) ≡ Ignored rest =
+        sym (ap (λ (n : ℕ). done n (marginOf (relationOf t k) (recordOf m right)) (Refused n)) z) ∙ is in
+        rw (including-judged right m t (p .0), p .1, including-own right m (right-told (good t m (p .0) .table-good) k used))
+        (as-included (relationOf t k) (recordOf m right) shown)

@@ -13,6 +13,9 @@ use Rattle.rules.specs.declared.Relation.{Relation}
 use Rattle.rules.specs.declared.Table.{Table}
 use Rattle.rules.specs.declared.Marking.{Marking}
 use Rattle.rules.specs.declared.Step.{Step}
+use Rattle.rules.specs.declared.Rest.{Rest}
+use Rattle.rules.specs.declared.Rest.the-variants.{Never as rest-never, By as rest-by}
+use Rattle.rules.specs.declared.MarginAnswer.the-variants.{Ignored}
 use Rattle.rules.specs.Numbers.{_if_, _else_, firstOf, marginNumber, holdUpNumber, checkNumber}
 use Rattle.rules.specs.Fields.{bytesOf}
 use Rattle.rules.specs.Judge.{relationNumber, tableNumber, markingNumber, markingNumberFor, judged}
@@ -23,7 +26,7 @@ use Rattle.rules.specs.Carrying.{carryNumber}
 use Rattle.rules.specs.Enabled.{enabledAnswer}
 use Rattle.rules.specs.Time.{dueAnswer, plainTickNumber, plainTick}
 use Rattle.rules.specs.Ask.{requestNumber, reportNumber, request, report}
-use Rattle.rules.specs.Margin.{marginOf, margin}
+use Rattle.rules.specs.Margin.{outright, marginOf, margin}
 use Rattle.rules.specs.HoldUp.{holdUpOf, holdUp}
 use Rattle.rules.specs.Closure.{closureAnswer}
 use Rattle.rules.specs.Check.{verdict, check}
@@ -158,9 +161,17 @@ module _ (P : ℕ → Type 0) (each : (number : ℕ) → given number ≡ true �
   answers-given t m (s ∷ rest) (suc i) = answers-given t (stepped t m s) rest i
 
   -- the answers that are enums
+  ignored-given : (rest : Rest) → P (marginNumber (Ignored rest))
+  ignored-given rest-never = each 0 refl
+  ignored-given (rest-by ticks) = each 0 refl
+
+  outright-given : (rest : Rest) → P (marginNumber (outright rest))
+  outright-given rest-never = each 0 refl
+  outright-given (rest-by ticks) = each 0 refl
+
   margin-given : (t : Table) (m : Marking) (k : ℕ) → P (marginNumber (margin t m k))
   unfolding margin marginOf
-  margin-given t m k = search (if-given, else-given, cond-given marginNumber, each, judged-given) depth 10
+  margin-given t m k = search (if-given, else-given, cond-given marginNumber, ignored-given, outright-given, each, judged-given) depth 10
 
   hold-up-given : (t : Table) (m : Marking) (e : ℕ) → P (holdUpNumber (holdUp t m e))
   unfolding holdUp holdUpOf

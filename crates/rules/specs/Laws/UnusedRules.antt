@@ -20,7 +20,7 @@ use Rattle.rules.specs.Judge.{relationNumber, tableNumber, recordNumber,
 use Rattle.rules.specs.Effect.{excludes, includes, smallest, response, withInclusion, effectAt, effect}
 use Rattle.rules.specs.Time.{anyDue, dueSet, later, time}
 use Rattle.rules.specs.Enabled.{blocks, isEnabled}
-use Rattle.rules.specs.HoldUp.{holdUpOf}
+use Rattle.rules.specs.HoldUp.{wouldBlock, holdUpOf}
 use Rattle.rules.specs.Closure.{busy, followed, follows, widened, widenedFully, closure}
 use Rattle.rules.specs.Check.{unreportable, uncausable, waiting, awaited, onCycle, reopening, reviving, reason, verdict}
 use Rattle.rules.specs.Unused.{SameTable, SameMarking}
@@ -208,10 +208,19 @@ module _ {t u : Table} {m n : Marking} (a : Agree t u m n) where
   unfolding isEnabled
   enabled-alike e b = rw (event-alike e b, some-agree (a .tables .same-count) (blocks t m e) (blocks u n e) (blocks-alike e))
 
+  would-block-alike : (e k : ℕ) → k < t .count → wouldBlock t m e k ≡ wouldBlock u n e k
+  unfolding wouldBlock
+  would-block-alike e k b = rw (right-alike k b, relation-alike k b)
+
   pub hold-up-alike : (e : ℕ) → e < t .events → holdUpOf t m e ≡ holdUpOf u n e
   unfolding holdUpOf
   hold-up-alike e b =
-      rw (event-alike e b, lowest-agree (a .tables .same-count) (blocks t m e) (blocks u n e) (blocks-alike e), a .tables .same-count)
+      rw (
+        event-alike e b,
+        lowest-agree (a .tables .same-count) (blocks t m e) (blocks u n e) (blocks-alike e),
+        lowest-agree (a .tables .same-count) (wouldBlock t m e) (wouldBlock u n e) (would-block-alike e),
+        a .tables .same-count,
+      )
 
   -- Closure
   busy-alike : (x : ℕ) → x < t .events → busy t m x ≡ busy u n x
