@@ -14,3 +14,4 @@ pub mod Answering
 pub mod Acting
 pub mod Effected
 pub mod Asked
+pub mod Blocking

@@ -2,4 +2,5 @@
 pub mod Derived
 pub mod Stands
 pub mod Acting
+pub mod Blocking
 pub mod Laws

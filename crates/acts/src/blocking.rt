@@ -1,4 +1,4 @@
-// The scan for the first relation that blocks an event.
+// The scan for the first relation that blocks an event, or would if its right event were included: one scan, told which.
 use rules::Marking;
 use rules::Record;
 use rules::Relation;
@@ -7,14 +7,15 @@ ghost use mathlib.Core.Path.{_≡_};
 ghost use mathlib.Core.Bool.{_&&_};
 ghost use lib.Dec.{eqb};
 ghost use Rattle.rules.specs.Counting.{lowest};
-ghost use Rattle.rules.specs.Enabled.{stops, blocks};
+ghost use Rattle.rules.specs.Enabled.{stops};
 ghost use Rattle.rules.specs.Shapes.Good.{Good};
+ghost use Rattle.acts.specs.Blocking.{asIf, blocksAs};
 
-// A relation stops its left event, where r is the record of its right event.
-fn stops(k: Relation, r: Record) -> bool
-    ensures { λ b. ⌜ b ≡ stops k r ⌝ }
+// A relation stops its left event, where r is the record of its right event, or would if that had returned.
+fn stops(k: Relation, r: Record, returned: bool) -> bool
+    ensures { λ b. ⌜ b ≡ stops k (asIf returned r) ⌝ }
 {
-    if r.included {
+    if returned || r.included {
         if k.kind == 1 {
             if r.happened {
                 return !(k.time <= r.age);
@@ -28,20 +29,20 @@ fn stops(k: Relation, r: Record) -> bool
     false
 }
 
-// A relation stops e, where r is the record of its right event.
-fn stops_event(k: Relation, r: Record, e: usize) -> bool
-    ensures { λ b. ⌜ b ≡ eqb (k .left) e && stops k r ⌝ }
+// The same of e, which may not be its left event.
+fn stops_event(k: Relation, r: Record, e: usize, returned: bool) -> bool
+    ensures { λ b. ⌜ b ≡ eqb (k .left) e && stops k (asIf returned r) ⌝ }
 {
     if k.left as usize == e {
-        return stops(k, r);
+        return stops(k, r, returned);
     }
     false
 }
 
-// The lowest relation that blocks e, or the count where none does.
-pub fn first_blocking(t: Table, m: Marking, e: usize) -> usize
+// The lowest relation that blocks e, or would, or the count where none does.
+pub fn first_blocking(t: Table, m: Marking, e: usize, returned: bool) -> usize
     requires { ⌜ Good t m ⌝ }
-    ensures { λ r. ⌜ r ≡ lowest (t .count) (blocks t m e) ⌝ }
+    ensures { λ r. ⌜ r ≡ lowest (t .count) (blocksAs returned t m e) ⌝ }
 {
     let count = t.count;
     let mut i = 0;
@@ -52,7 +53,7 @@ pub fn first_blocking(t: Table, m: Marking, e: usize) -> usize
         let k = t.relations[i];
         let x = k.right as usize;
         let r = m.records[x];
-        if stops_event(k, r, e) {
+        if stops_event(k, r, e, returned) {
             break i;
         }
         i += 1;

@@ -15,7 +15,7 @@ pub fn is_enabled(t: Table, m: Marking, e: usize) -> bool
     ensures { λ r. ⌜ r ≡ isEnabled t m e ⌝ }
 {
     if m.records[e].included {
-        return !(first_blocking(t, m, e) < t.count);
+        return !(first_blocking(t, m, e, false) < t.count);
     }
     false
 }
@@ -26,9 +26,13 @@ pub fn holding(t: Table, m: Marking, e: usize) -> HoldUpAnswer
     ensures { λ r. ⌜ r ≡ holdUpOf t m e ⌝ }
 {
     if m.records[e].included {
-        let first = first_blocking(t, m, e);
+        let first = first_blocking(t, m, e, false);
         if first < t.count {
             return HoldUpAnswer::Blocked(first);
+        }
+        let unless = first_blocking(t, m, e, true);
+        if unless < t.count {
+            return HoldUpAnswer::EnabledUnless(unless);
         }
         return HoldUpAnswer::Enabled;
     }

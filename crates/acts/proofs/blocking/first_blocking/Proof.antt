@@ -1,20 +1,20 @@
--- The loop's invariant: below i no relation blocks. So the first that does, at i, is the lowest, and where none does the count is. Assumes nothing.
+-- The loop's invariant: below i no relation blocks, or would. So the first that does, at i, is the lowest, and where none does the count is. Assumes nothing.
 use mathlib.Core.Path.{_≡_, _∙_, sym}
 use Prim.Native.Nat.{_≤_, _-_}
 use native.Mathlib.Omega.{arith}
 use borrow.Author.Needs.{needs}
 use Rattle.rules.specs.Counting.{lowest}
-use Rattle.rules.specs.Enabled.{blocks}
 use Rattle.rules.specs.Laws.Granted.{right-told}
 use Rattle.rules.specs.Laws.Counting.{lowest-zero, lowest-more, lowest-here}
+use Rattle.acts.specs.Blocking.{blocksAs}
 use Rattle.acts.proofs.blocking.first_blocking.Statement.{statement}
 use Rattle.acts.proofs.blocking.first_blocking.Tie as tie
 
 abbrev Inv-loop : tie.InvT-loop
-Inv-loop e t m count i₀ i = (i ≤ count) × (count ≡ t .count) × (lowest i (blocks t m e) ≡ i)
+Inv-loop e returned t m count i₀ i = (i ≤ count) × (count ≡ t .count) × (lowest i (blocksAs returned t m e) ≡ i)
 
 abbrev μ-loop : tie.MeasureT-loop
-μ-loop e t m count i₀ i = count - i
+μ-loop e returned t m count i₀ i = count - i
 
 loop-holds : tie.Need-loop-holds Inv-loop μ-loop
 loop-holds c = (search needs, search needs, lowest-zero _)
@@ -44,7 +44,7 @@ loop-less : tie.Need-loop-less Inv-loop μ-loop
 loop-less c = omega arith
 
 loop-again : tie.Need-loop-again Inv-loop μ-loop
-unfolding blocks
+unfolding blocksAs
 loop-again c =
     let h = c .before .before .before .before .before .before in
     (omega arith, search needs, lowest-more _ (h .loop .i) (h .loop .inv .2) (sym (c .before .stops-event .ensures) ∙ c .if2 .left))
@@ -55,7 +55,7 @@ returns c =
     sym (rw e at (c .before .loop .inv .2))
 
 returns-2 : tie.Need-returns-2 Inv-loop μ-loop
-unfolding blocks
+unfolding blocksAs
 returns-2 c =
     let h = c .before .before .before .before .before .before in
     sym (lowest-here _ (h .loop .i) _ (omega arith) (h .loop .inv .2) (sym (c .before .stops-event .ensures) ∙ c .if2 .taken))

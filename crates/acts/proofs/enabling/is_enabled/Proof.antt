@@ -2,6 +2,7 @@
 use borrow.Author.Needs.{needs}
 use Rattle.rules.specs.Enabled.{isEnabled}
 use Rattle.rules.specs.Laws.Counting.{lowest-some}
+use Rattle.acts.specs.Laws.Blocking.{lowest-now}
 use Rattle.acts.proofs.enabling.is_enabled.Statement.{statement}
 use Rattle.acts.proofs.enabling.is_enabled.Tie as tie
 
@@ -16,7 +17,7 @@ first-blocking-requires c κs = search needs
 
 returns : tie.Need-returns
 unfolding isEnabled
-returns c = simp (c .before .before .if1 .taken, c .before .first-blocking .ensures, lowest-some)
+returns c = simp (c .before .before .if1 .taken, c .before .first-blocking .ensures, lowest-now, lowest-some)
 
 returns-2 : tie.Need-returns-2
 unfolding isEnabled
