@@ -2,11 +2,31 @@
 use rules::CheckAnswer;
 use rules::HoldUpAnswer;
 use rules::MarginAnswer;
+use rules::Rest;
 use rules::ToldCheck;
 use rules::ToldHoldUp;
 use rules::ToldMargin;
 ghost use mathlib.Core.Path.{_≡_};
+ghost use Rattle.rules.specs.declared.MarginAnswer.the-variants.{Ignored};
 ghost use Rattle.rules.specs.Numbers.{marginInNumbers, holdUpInNumbers, checkInNumbers};
+
+// Of a margin that is ignored.
+fn ignored(rest: Rest) -> ToldMargin
+    ensures { λ r. ⌜ r ≡ marginInNumbers (Ignored rest) ⌝ }
+{
+    match rest {
+        Rest::Never => ToldMargin {
+            number: 0,
+            kind: 1,
+            ticks: 0,
+        },
+        Rest::By(ticks) => ToldMargin {
+            number: 0,
+            kind: 4,
+            ticks,
+        },
+    }
+}
 
 pub fn margin(answer: MarginAnswer) -> ToldMargin
     ensures { λ r. ⌜ r ≡ marginInNumbers answer ⌝ }
@@ -22,11 +42,7 @@ pub fn margin(answer: MarginAnswer) -> ToldMargin
             kind: 0,
             ticks: 0,
         },
-        MarginAnswer::Ignored => ToldMargin {
-            number: 0,
-            kind: 1,
-            ticks: 0,
-        },
+        MarginAnswer::Ignored(rest) => ignored(rest),
         MarginAnswer::Never => ToldMargin {
             number: 0,
             kind: 2,
@@ -53,6 +69,11 @@ pub fn hold_up(answer: HoldUpAnswer) -> ToldHoldUp
             number: 0,
             kind: 0,
             relation: 0,
+        },
+        HoldUpAnswer::EnabledUnless(relation) => ToldHoldUp {
+            number: 0,
+            kind: 3,
+            relation,
         },
         HoldUpAnswer::Excluded => ToldHoldUp {
             number: 0,

@@ -10,6 +10,7 @@ use rules::Marking;
 use rules::MarkingAnswer;
 use rules::Record;
 use rules::Relation;
+use rules::Rest;
 use rules::SetAnswer;
 use rules::TableAnswer;
 
@@ -84,11 +85,18 @@ pub fn table(sum: u64, a: TableAnswer) -> u64 {
     )
 }
 
+fn ignored_word(rest: Rest) -> u64 {
+    match rest {
+        Rest::Never => 17,
+        Rest::By(ticks) => if ticks < 0 { 21 } else { 22 },
+    }
+}
+
 pub fn margin(sum: u64, a: MarginAnswer) -> u64 {
     let word = match a {
         MarginAnswer::Refused(number) => number as u64,
         MarginAnswer::NotACondition => 16,
-        MarginAnswer::Ignored => 17,
+        MarginAnswer::Ignored(rest) => ignored_word(rest),
         MarginAnswer::Never => 18,
         MarginAnswer::By(ticks) => if ticks < 0 { 19 } else { 20 },
     };
@@ -99,6 +107,7 @@ pub fn hold_up(sum: u64, a: HoldUpAnswer) -> u64 {
     let word = match a {
         HoldUpAnswer::Refused(number) => number as u64,
         HoldUpAnswer::Enabled => 16,
+        HoldUpAnswer::EnabledUnless(relation) => taken(19, relation as u64),
         HoldUpAnswer::Excluded => 17,
         HoldUpAnswer::Blocked(relation) => taken(18, relation as u64),
     };

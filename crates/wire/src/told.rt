@@ -3,6 +3,7 @@ use rules::CheckAnswer;
 use rules::EnabledAnswer;
 use rules::HoldUpAnswer;
 use rules::MarginAnswer;
+use rules::Rest;
 use rules::SetAnswer;
 
 pub struct Told {
@@ -68,11 +69,18 @@ fn word_of(value: i32) -> u32 {
     value as u32
 }
 
+fn ignored(rest: Rest) -> Told {
+    match rest {
+        Rest::Never => cased(0, 1, 0, 4),
+        Rest::By(value) => cased(0, 4, word_of(value) as u64, 4),
+    }
+}
+
 pub fn margin(a: MarginAnswer) -> Told {
     match a {
         MarginAnswer::Refused(number) => cased(number, 0, 0, 4),
         MarginAnswer::NotACondition => cased(0, 0, 0, 4),
-        MarginAnswer::Ignored => cased(0, 1, 0, 4),
+        MarginAnswer::Ignored(rest) => ignored(rest),
         MarginAnswer::Never => cased(0, 2, 0, 4),
         MarginAnswer::By(value) => cased(0, 3, word_of(value) as u64, 4),
     }
@@ -82,6 +90,7 @@ pub fn hold_up(a: HoldUpAnswer) -> Told {
     match a {
         HoldUpAnswer::Refused(number) => cased(number, 0, 0, 8),
         HoldUpAnswer::Enabled => cased(0, 0, 0, 8),
+        HoldUpAnswer::EnabledUnless(relation) => cased(0, 3, relation as u64, 8),
         HoldUpAnswer::Excluded => cased(0, 1, 0, 8),
         HoldUpAnswer::Blocked(relation) => cased(0, 2, relation as u64, 8),
     }
