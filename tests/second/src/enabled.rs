@@ -11,11 +11,19 @@ pub struct EnabledAnswer {
     pub enabled: bool,
 }
 
-/// Whether this relation, as it stands, keeps its left event from happening.
-/// An excluded right event never blocks.
-pub fn blocks(link: &Link, state: &State) -> bool {
+/// How the right event of a relation is taken when the relation is judged.
+#[derive(Clone, Copy, PartialEq, Eq, Debug)]
+pub enum Right {
+    /// An excluded one never blocks.
+    AsItStands,
+    /// As if this one event were included, everything else as it stands.
+    AsIncluded,
+}
+
+/// Whether this relation keeps its left event from happening, or would.
+pub fn blocks(link: &Link, state: &State, taken: Right) -> bool {
     let right = &state.of[link.right];
-    if !right.included {
+    if taken == Right::AsItStands && !right.included {
         return false;
     }
     match link.meaning {
@@ -28,8 +36,13 @@ pub fn blocks(link: &Link, state: &State) -> bool {
     }
 }
 
+/// Whether the event is included and no relation blocks it. What a relation
+/// would do if its right event came back does not count here.
 pub fn is_enabled(process: &Process, state: &State, event: usize) -> bool {
-    state.of[event].included && !process.relations_of(event).any(|link| blocks(link, state))
+    let blocked = process
+        .relations_of(event)
+        .any(|link| blocks(link, state, Right::AsItStands));
+    state.of[event].included && !blocked
 }
 
 pub fn judge_event(process: &Process, event: usize) -> Result<(), u8> {

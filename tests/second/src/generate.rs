@@ -1,6 +1,7 @@
 //! Random cases, one function for each call. Sound and damaged values are
 //! mixed so that every refusal number and every reason of the check comes up.
 
+mod away;
 mod carrying;
 mod damage;
 mod plain_numbers;
@@ -458,7 +459,7 @@ pub fn plain_tick_case(rng: &mut Rng) -> Case {
 }
 
 pub fn margin_case(rng: &mut Rng) -> Case {
-    let pair = pair(rng);
+    let mut pair = pair(rng);
     let conditions: Vec<usize> = (0..pair.table.count.min(MOST_RELATIONS))
         .filter(|&number| pair.table.relations[number].kind == 1)
         .collect();
@@ -473,12 +474,14 @@ pub fn margin_case(rng: &mut Rng) -> Case {
         (Some(condition), _) if rng.chance(60) => condition,
         _ => some_number(rng, pair.table.count),
     };
+    away::for_margin(&mut rng.aside(), &mut pair, relation);
     Case::Margin { pair, relation }
 }
 
 pub fn hold_up_case(rng: &mut Rng) -> Case {
-    let pair = pair(rng);
+    let mut pair = pair(rng);
     let event = some_number(rng, pair.table.events);
+    away::for_hold_up(&mut rng.aside(), &mut pair, event);
     Case::HoldUp { pair, event }
 }
 

@@ -3,7 +3,7 @@
 use crate::check::{static_check, Rejection};
 use crate::decoded::{Marking, Table, MOST_EVENTS};
 use crate::effect::effect;
-use crate::enabled::blocks;
+use crate::enabled::{blocks, Right};
 use crate::event_set::EventSet;
 use crate::judge::understand;
 use crate::process::{Process, State};
@@ -29,7 +29,7 @@ fn needed_events(process: &Process, state: &State) -> EventSet {
     while let Some(event) = work.pop() {
         if needed.insert(event) {
             for link in process.relations_of(event) {
-                if blocks(link, state) {
+                if blocks(link, state, Right::AsItStands) {
                     work.push(link.right);
                 }
             }

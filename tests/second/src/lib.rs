@@ -46,7 +46,7 @@ pub use guarded::{guarded_tick, GuardedAnswer};
 pub use hold_up::{hold_up, HoldUpAnswer};
 pub use image::{read_marking, read_table, RECORD_BYTES};
 pub use judge::{judge_marking, judge_table};
-pub use margin::{margin, MarginAnswer};
+pub use margin::{margin, MarginAnswer, Rest};
 pub use plain_numbers::{build_table, tell_class, tell_firm, tell_relation};
 pub use record::record;
 pub use remedies::{remedies, RemedyAnswer};

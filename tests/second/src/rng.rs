@@ -18,6 +18,13 @@ impl Rng {
         mixed ^ (mixed >> 31)
     }
 
+    /// Another generator, decided by where this one stands. What is drawn from it
+    /// is not drawn from this one, whose numbers stay as they are.
+    pub fn aside(&self) -> Rng {
+        let mut copy = Rng::new(self.state);
+        Rng::new(copy.next_u64())
+    }
+
     /// A number below `limit`, and 0 if there is none. The slight unevenness
     /// of the remainder does not matter here.
     pub fn below(&mut self, limit: usize) -> usize {

@@ -4,6 +4,7 @@ mod carriers;
 mod counted;
 mod firm;
 mod promises;
+mod returning;
 
 use promises::{accepts, promise};
 use second::case::{Answer, Case};
@@ -231,9 +232,10 @@ fn the_check_accepts_often_and_there_is_much_to_do() {
             Answer::Margin(MarginAnswer::By(0)) => count(&mut seen, "margin at 0"),
             Answer::Margin(MarginAnswer::By(_)) => count(&mut seen, "margin above"),
             Answer::Margin(MarginAnswer::Never) => count(&mut seen, "margin never"),
-            Answer::Margin(MarginAnswer::Ignored) => count(&mut seen, "margin ignored"),
+            Answer::Margin(MarginAnswer::Ignored(_)) => count(&mut seen, "margin ignored"),
             Answer::Margin(MarginAnswer::NotACondition) => count(&mut seen, "no condition"),
             Answer::HoldUp(HoldUpAnswer::Enabled) => count(&mut seen, "enabled"),
+            Answer::HoldUp(HoldUpAnswer::EnabledUnless(_)) => count(&mut seen, "enabled unless"),
             Answer::HoldUp(HoldUpAnswer::Excluded) => count(&mut seen, "excluded"),
             Answer::HoldUp(HoldUpAnswer::Blocked(_)) => count(&mut seen, "blocked"),
             _ => {}
@@ -265,6 +267,7 @@ fn the_check_accepts_often_and_there_is_much_to_do() {
         "margin ignored",
         "no condition",
         "enabled",
+        "enabled unless",
         "excluded",
         "blocked",
     ];
@@ -511,12 +514,15 @@ fn tampered(answer: &Answer) -> Option<Answer> {
         Answer::Margin(margin) => {
             *margin = match *margin {
                 MarginAnswer::By(by) => MarginAnswer::By(-by - 1),
+                MarginAnswer::Ignored(Rest::By(by)) => MarginAnswer::Ignored(Rest::By(-by - 1)),
+                MarginAnswer::Ignored(Rest::Never) => MarginAnswer::Ignored(Rest::By(0)),
                 _ => MarginAnswer::By(0),
             }
         }
         Answer::HoldUp(hold_up) => {
             *hold_up = match *hold_up {
-                HoldUpAnswer::Enabled => HoldUpAnswer::Blocked(0),
+                HoldUpAnswer::Enabled => HoldUpAnswer::EnabledUnless(0),
+                HoldUpAnswer::EnabledUnless(number) => HoldUpAnswer::EnabledUnless(number + 1),
                 _ => HoldUpAnswer::Enabled,
             }
         }

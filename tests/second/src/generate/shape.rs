@@ -7,11 +7,11 @@ use crate::guarded::guarded_tick;
 use crate::rng::Rng;
 use crate::{closure, plain_tick, report, request};
 
-const CONDITION: u8 = 1;
+pub(super) const CONDITION: u8 = 1;
 const RESPONSE: u8 = 2;
 const INCLUDES: u8 = 3;
 const EXCLUDES: u8 = 4;
-const MILESTONE: u8 = 5;
+pub(super) const MILESTONE: u8 = 5;
 
 /// What keeps a shaped table acceptable to the check: the closure stays within
 /// the working events, whose inhibitions only lead to later ones.
@@ -166,7 +166,7 @@ pub fn relation(kind: u8, left: usize, right: usize, time: Option<u32>) -> Relat
     }
 }
 
-fn some_time(rng: &mut Rng) -> u32 {
+pub(super) fn some_time(rng: &mut Rng) -> u32 {
     match rng.below(12) {
         0 => rng.one_of([TIME_LIMIT, TIME_LIMIT - 1]),
         1 => rng.word() % (TIME_LIMIT + 1),

@@ -11,6 +11,7 @@ mod plain_numbers;
 mod reasons;
 mod records;
 mod refusals;
+mod returning;
 mod round_trips;
 mod shop;
 mod written_tables;

@@ -561,8 +561,14 @@ fn margins_of_every_sort() {
     let table = table(&[CONTROLLED; 2], &[milestone(0, 1), condition(0, 1, LIMIT)]);
     let asked = |record, relation| margin(&table, &marking(&[included(), record]), relation);
     assert_eq!(asked(included(), 0), MarginAnswer::NotACondition);
-    assert_eq!(asked(excluded(happened(3)), 1), MarginAnswer::Ignored);
-    assert_eq!(asked(excluded(included()), 1), MarginAnswer::Ignored);
+    assert_eq!(
+        asked(excluded(happened(3)), 1),
+        MarginAnswer::Ignored(Rest::By(-999_999_997))
+    );
+    assert_eq!(
+        asked(excluded(included()), 1),
+        MarginAnswer::Ignored(Rest::Never)
+    );
     assert_eq!(asked(included(), 1), MarginAnswer::Never);
     assert_eq!(asked(happened(0), 1), MarginAnswer::By(-1_000_000_000));
     assert_eq!(asked(happened(LIMIT), 1), MarginAnswer::By(0));

@@ -5,7 +5,10 @@
 mod carrying;
 mod counts;
 pub mod firm;
+mod hold_up;
+mod margin;
 pub mod replay;
+mod returning;
 mod tables;
 
 use replay::{replay, REPLAYED};
@@ -317,10 +320,13 @@ fn enabled_promise(pair: &Pair, event: usize, answer: &EnabledAnswer) -> Promise
             "a refused answer says more than its number",
         );
     }
-    holds(
-        answer.enabled == (hold_up == HoldUpAnswer::Enabled),
-        "enabled and hold-up differ",
-    )
+    let free = matches!(
+        hold_up,
+        HoldUpAnswer::Enabled | HoldUpAnswer::EnabledUnless(_)
+    );
+    holds(answer.enabled == free, "enabled and hold-up differ")?;
+    let by_words = returning::enabled_in(&pair.table, &pair.marking, event)?;
+    holds(answer.enabled == by_words, "enabled is wrong")
 }
 
 fn due_promise(pair: &Pair, answer: &SetAnswer) -> Promise {
@@ -389,72 +395,6 @@ fn plain_tick_promise(pair: &Pair, answer: &MarkingAnswer) -> Promise {
         answer.marking == one_tick_later(&pair.marking),
         "a tick is not a tick",
     )
-}
-
-fn margin_promise(pair: &Pair, relation: usize, answer: &MarginAnswer) -> Promise {
-    let Pair { table, marking } = pair;
-    let exists = relation < table.count;
-    let expected = match judged(pair) {
-        0 if exists => {
-            let asked = &table.relations[relation];
-            let right = &marking.records[usize::from(asked.right)];
-            if asked.kind != 1 {
-                MarginAnswer::NotACondition
-            } else if !right.included {
-                MarginAnswer::Ignored
-            } else if !right.happened {
-                MarginAnswer::Never
-            } else {
-                let by = i64::from(right.age) - i64::from(asked.time);
-                MarginAnswer::By(i32::try_from(by).map_err(|error| error.to_string())?)
-            }
-        }
-        0 => MarginAnswer::Refused(8),
-        number => MarginAnswer::Refused(number),
-    };
-    holds(*answer == expected, "the margin is wrong")?;
-    // A condition that still waits keeps its left event from happening.
-    if matches!(answer, MarginAnswer::Never) || matches!(answer, MarginAnswer::By(by) if *by < 0) {
-        let left = usize::from(table.relations[relation].left);
-        return holds(
-            !enabled(table, marking, left).enabled,
-            "enabled although a condition waits",
-        );
-    }
-    Ok(())
-}
-
-fn hold_up_promise(pair: &Pair, event: usize, answer: &HoldUpAnswer) -> Promise {
-    let Pair { table, marking } = pair;
-    let enabled = enabled(table, marking, event);
-    match *answer {
-        HoldUpAnswer::Refused(number) => {
-            holds(number != 0 && enabled.number == number, "wrongly refused")
-        }
-        HoldUpAnswer::Enabled => holds(enabled.enabled, "not enabled after all"),
-        HoldUpAnswer::Excluded => holds(
-            enabled.number == 0 && !marking.records[event].included,
-            "not excluded after all",
-        ),
-        HoldUpAnswer::Blocked(number) => {
-            holds(
-                enabled.number == 0 && !enabled.enabled && number < table.count,
-                "not blocked after all",
-            )?;
-            let relation = &table.relations[number];
-            holds(
-                usize::from(relation.left) == event && [1, 5].contains(&relation.kind),
-                "blocked by a relation that cannot block",
-            )?;
-            // Without the relations from there on, nothing blocks.
-            let mut shorter = **table;
-            shorter.count = number;
-            holds(
-                second::enabled(&shorter, marking, event).enabled,
-                "a lower relation blocks",
-            )
-        }
-    }
 }
 
 /// The least set that holds the busy events and is closed under inhibitors,
@@ -857,10 +797,10 @@ pub fn promise(case: &Case, answer: &Answer) -> Promise {
         }
         (Case::PlainTick { pair }, Answer::Marking(answer)) => plain_tick_promise(pair, answer),
         (Case::Margin { pair, relation }, Answer::Margin(answer)) => {
-            margin_promise(pair, *relation, answer)
+            margin::margin_promise(pair, *relation, answer)
         }
         (Case::HoldUp { pair, event }, Answer::HoldUp(answer)) => {
-            hold_up_promise(pair, *event, answer)
+            hold_up::hold_up_promise(pair, *event, answer)
         }
         (Case::Closure { pair }, Answer::Closure(answer)) => closure_promise(pair, answer),
         (Case::Check { pair }, Answer::Check(answer)) => check_promise(pair, answer),
