@@ -1,8 +1,8 @@
 /*
  * The shop example P of docs/RULES.md, from C: a leak asks for a flush within three minutes, the flush waits for the isolating valve, and when
  * the duty is due the engine itself isolates, drains and flushes. The table is built from plain numbers, and shown in its bytes. A flush that is
- * only tried, in an offered list, is not counted; one that is done is. At the end a leak comes again while the flush is still to be done: it is
- * put off, unless the table is firm.
+ * only tried, in an offered list, is not counted; one that is done is. Then a leak comes again while the flush is still to be done: it is put off,
+ * unless the table is firm. At the end the isolating valve is away, and the engine says what would be if it came back.
  */
 #include "duty.h"
 #include "shop.h"
@@ -47,6 +47,8 @@ static void say_table(void)
     printf("\n");
 }
 
+static const char *right_of(size_t relation) { return names[relations[DUTY_NUMBERS * relation + DUTY_AT_RIGHT]]; }
+
 static void say_hold_up(size_t event)
 {
     uint8_t kind = 0;
@@ -55,8 +57,26 @@ static void say_hold_up(size_t event)
         return;
     if (kind == DUTY_BLOCKED)
         printf("  %s is held up by relation %zu\n", names[event], relation);
+    else if (kind == DUTY_ENABLED_UNLESS)
+        printf("  %s is enabled, unless %s returns (relation %zu)\n", names[event], right_of(relation), relation);
     else
         printf("  %s is %s\n", names[event], kind == DUTY_ENABLED ? "enabled" : "excluded");
+}
+
+static void say_margin(size_t relation)
+{
+    uint8_t kind = 0;
+    int32_t ticks = 0;
+    if (duty_margin(table, sizeof table, marking, sizeof marking, relation, &kind, &ticks) != DUTY_DONE)
+        return;
+    printf("  relation %zu: ", relation);
+    switch (kind) {
+    case DUTY_IGNORED: printf("ignored; if %s returned: never\n", right_of(relation)); break;
+    case DUTY_IGNORED_BY: printf("ignored; if %s returned: by %" PRId32 "\n", right_of(relation), ticks); break;
+    case DUTY_NEVER: printf("never\n"); break;
+    case DUTY_BY: printf("by %" PRId32 "\n", ticks); break;
+    default: printf("not a condition\n");
+    }
 }
 
 static void say_count(size_t event)
@@ -85,16 +105,23 @@ static void guarded_tick(void)
         printf("  caused %s\n", names[caused[i]]);
 }
 
+/* In the marking itself: no relation of the table does it at this moment. */
+static void exclude(size_t event) { marking[DUTY_RECORD_BYTES * event + INCLUDED_BYTE] &= 0xFE; }
+
+static void include(size_t event) { marking[DUTY_RECORD_BYTES * event + INCLUDED_BYTE] |= 0x01; }
+
 /* The table, and its start: all fresh but for the flush, which is excluded. */
 static void start(const char *what, uint32_t firm)
 {
     say(what, duty_write_table(EVENTS, firm, classes, sizeof classes, relations, NUMBERS, table, sizeof table));
     say_table();
     say("fresh marking", duty_fresh(EVENTS, marking, sizeof marking));
-    marking[DUTY_RECORD_BYTES * FLUSH + INCLUDED_BYTE] = 0;
+    exclude(FLUSH);
 }
 
 static void report_leak(void) { say("report leak", duty_report(table, sizeof table, marking, sizeof marking, LEAK)); }
+
+static void request(const char *what, size_t event) { say(what, duty_request(table, sizeof table, marking, sizeof marking, event)); }
 
 /* A leak, two minutes, and the leak again: when is the flush due? */
 static void repeat_leak(void)
@@ -107,13 +134,33 @@ static void repeat_leak(void)
     say_deadline(FLUSH);
 }
 
+/* While the isolating valve is away the flush does not wait for it: would it, if the valve came back? */
+static void valve_away(void)
+{
+    exclude(ISOLATE);
+    say_hold_up(ISOLATE);
+    say_margin(1);
+    say_hold_up(FLUSH);
+    include(ISOLATE);
+}
+
+/* Before it was ever used, and a minute after. */
+static void valve_away_twice(void)
+{
+    request("request drain", DRAIN);
+    valve_away();
+    request("request isolate", ISOLATE);
+    guarded_tick();
+    valve_away();
+}
+
 int main(void)
 {
     start("table", DUTY_NOT_FIRM);
     say("judged", duty_judge(table, sizeof table, marking, sizeof marking));
 
     report_leak();
-    say("request flush", duty_request(table, sizeof table, marking, sizeof marking, FLUSH));
+    request("request flush", FLUSH);
     say_hold_up(FLUSH);
 
     for (int minute = 0; minute < 3; minute++)
@@ -134,5 +181,6 @@ int main(void)
     repeat_leak();
     start("firm table", DUTY_FIRM);
     repeat_leak();
+    valve_away_twice();
     return 0;
 }

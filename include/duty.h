@@ -67,9 +67,10 @@ extern "C" {
 #endif
 
 /* It grows by one wherever a function, a number or an image is changed, so that code written for another one can refuse to compile.
-   4, since 3: the first of the 16 spare bits of a table's header says that the table is firm, and 2 is given for the other 15; duty_write_table
-   is told firm, behind the events; duty_firm tells it. A table image that was read is read as before, and is not firm. */
-#define DUTY_VERSION 4
+   5, since 4: duty_margin tells of an ignored condition what it would be if its right event were included, by kind 1 where that is never and by
+   kind 4 where it is ticks; duty_hold_up tells by kind 3 of an enabled event what would block it. Code that takes kind 1 for every ignored
+   condition, or kind 0 for every enabled event, is to be changed. No image and no refusal is another. */
+#define DUTY_VERSION 5
 
 /* A compiler that knows these words warns where a null pointer, or an overlap with what is written, can be seen. */
 #if defined(__GNUC__)
@@ -213,14 +214,27 @@ DUTY_CALL uint8_t duty_record(const uint8_t *table, size_t table_length, const u
 DUTY_CALL uint8_t duty_due(const uint8_t *table, size_t table_length, const uint8_t *marking, size_t marking_length,
                            uint64_t *DUTY_ALONE set);
 
-/* The margin of a relation, as a condition: what kind it is, and the ticks, age minus time, below 0 while the condition still waits; 0 ticks
-   for any other kind. 8. */
-enum { DUTY_NOT_A_CONDITION = 0, DUTY_IGNORED = 1, DUTY_NEVER = 2, DUTY_BY = 3 };
+/* The margin of a relation, as a condition: what kind it is, and for two kinds the ticks, age minus time, below 0 while the condition still
+   waits; 0 ticks for any other kind. A condition whose right event is excluded is ignored: then kind and ticks tell what its margin would be if
+   that event were included. 8. */
+enum {
+    DUTY_NOT_A_CONDITION = 0,
+    DUTY_IGNORED = 1,       /* right is excluded; were it included: never */
+    DUTY_NEVER = 2,         /* right is included, and has not happened */
+    DUTY_BY = 3,            /* right is included, and has happened: the ticks */
+    DUTY_IGNORED_BY = 4     /* right is excluded; were it included: the ticks */
+};
 DUTY_CALL uint8_t duty_margin(const uint8_t *table, size_t table_length, const uint8_t *marking, size_t marking_length,
                               size_t relation, uint8_t *DUTY_ALONE kind, int32_t *DUTY_ALONE ticks);
 
-/* What holds an event up, and the lowest-numbered relation that blocks it; relation 0 for any other kind. 8. */
-enum { DUTY_ENABLED = 0, DUTY_EXCLUDED = 1, DUTY_BLOCKED = 2 };
+/* What holds an event up, and the lowest-numbered relation that blocks it; where it is enabled, the lowest-numbered relation that would block it
+   if the right event of that relation were included and all else were as it is; relation 0 where none is named. 8. */
+enum {
+    DUTY_ENABLED = 0,           /* and no relation would block it; relation 0 */
+    DUTY_EXCLUDED = 1,          /* relation 0 */
+    DUTY_BLOCKED = 2,           /* by this relation */
+    DUTY_ENABLED_UNLESS = 3     /* unless the right event of this relation returns */
+};
 DUTY_CALL uint8_t duty_hold_up(const uint8_t *table, size_t table_length, const uint8_t *marking, size_t marking_length,
                                size_t event, uint8_t *DUTY_ALONE kind, size_t *DUTY_ALONE relation);
 

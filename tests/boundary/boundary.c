@@ -660,6 +660,17 @@ static void builds(const struct draft *d, const uint8_t *image)
     give_back(longer);
 }
 
+/* The table of a draft, and a fresh marking for it. */
+static struct images made(const struct draft *d)
+{
+    struct images i = take(NULL, length_of(d), NULL, DUTY_RECORD_BYTES * d->events);
+    open_up(i.table);
+    CHECK(build(d, i.table) == DUTY_DONE);
+    shut(i.table);
+    CHECK(duty_fresh(d->events, i.marking.bytes, i.marking.length) == DUTY_DONE);
+    return i;
+}
+
 static const uint32_t waits[DUTY_NUMBERS] = {DUTY_CONDITION, 0, 1, 1, 5}, includes[DUTY_NUMBERS] = {DUTY_INCLUSION, 1, 2, 0, 0};
 
 /* The first number where several apply: what is wrong is put right one by one, from the first test on. */
@@ -877,11 +888,7 @@ static struct images meeting(uint32_t firm, size_t target, const struct duty *ha
     const uint32_t numbers[DUTY_NUMBERS] = {DUTY_RESPONSE, 0, (uint32_t)target, given->bounded, given->time};
     drafted(&d, 2, DUTY_CONTROLLABLE | DUTY_CAUSABLE, 1, numbers);
     d.firm = firm;
-    struct images i = take(NULL, length_of(&d), NULL, 2 * DUTY_RECORD_BYTES);
-    open_up(i.table);
-    CHECK(build(&d, i.table) == DUTY_DONE);
-    shut(i.table);
-    CHECK(duty_fresh(2, i.marking.bytes, i.marking.length) == DUTY_DONE);
+    struct images i = made(&d);
     memcpy(i.marking.bytes + DUTY_RECORD_BYTES * target + 4, had->bytes, sizeof had->bytes);
     return i;
 }
@@ -982,6 +989,193 @@ static void refuses_the_other_bits(void)
             table[3] = (uint8_t)bits;
             table_refused(table, sizeof table, marking, sizeof marking, DUTY_SPARE);
         }
+}
+
+/* Excluded events, and what would be if they returned */
+
+/* an event that has happened so long ago, or never; it has something to do, and is included, or not */
+struct state {
+    uint32_t happened, age;
+    const struct duty *duty;
+    uint32_t included;
+};
+
+static void set_state(struct images i, size_t event, struct state s)
+{
+    uint32_t past = s.happened << 31 | s.age << 1 | s.included;
+    uint8_t *bytes = i.marking.bytes + DUTY_RECORD_BYTES * event;
+    memset(bytes, 0, DUTY_RECORD_BYTES);
+    for (int k = 0; k < 4; k++)
+        bytes[k] = (uint8_t)(past >> (24 - 8 * k));
+    memcpy(bytes + 4, s.duty->bytes, sizeof s.duty->bytes);
+    bytes[DUTY_RECORD_BYTES - 1] = (uint8_t)s.happened;
+}
+
+/* What is told, whatever stood there before. */
+static int has_margin(struct images i, size_t k, uint8_t kind, int32_t ticks)
+{
+    *SMALL = 9;
+    *TICKS = 9;
+    return duty_margin(T(i), M(i), k, SMALL, TICKS) == DUTY_DONE && *SMALL == kind && *TICKS == ticks && kept_before(small);
+}
+
+static int has_hold_up(struct images i, size_t event, uint8_t kind, size_t k)
+{
+    *SMALL = 9;
+    *PLACE = 9;
+    return duty_hold_up(T(i), M(i), event, SMALL, PLACE) == DUTY_DONE && *SMALL == kind && *PLACE == k && kept_before(place);
+}
+
+/* Two events: by the second relation the first waits for the second, which has this state. */
+static struct images waiting(uint32_t kind, uint32_t time, struct state s)
+{
+    static struct draft d;
+    const uint32_t numbers[2 * DUTY_NUMBERS] = {DUTY_INCLUSION, 0, 1, 0, 0, kind, 0, 1, kind == DUTY_CONDITION, time};
+    drafted(&d, 2, DUTY_CONTROLLABLE, 2, numbers);
+    memcpy(d.numbers, numbers, sizeof numbers);
+    struct images i = made(&d);
+    set_state(i, 1, s);
+    shut(i.marking);
+    return i;
+}
+
+/* Included it blocks, excluded it would; where it does neither nothing is named. The event is enabled but where it is blocked. */
+static void holds_up(struct images i, int stops, uint32_t included)
+{
+    uint8_t kind = !stops ? DUTY_ENABLED : included ? DUTY_BLOCKED : DUTY_ENABLED_UNLESS;
+    CHECK(has_hold_up(i, 0, kind, stops ? 1 : 0));
+    CHECK(duty_enabled(T(i), M(i), 0, SMALL) == DUTY_DONE && *SMALL == (kind != DUTY_BLOCKED));
+    CHECK(has_hold_up(i, 1, included ? DUTY_ENABLED : DUTY_EXCLUDED, 0));
+}
+
+/* An ignored condition has as its rest what it is where its right event is included: never with 0 ticks, or the ticks. */
+static void tells_the_rest(void)
+{
+    static const struct {
+        uint32_t happened, age, time;
+        int32_t ticks;
+    } conditions[] = {
+        {0, 0, 0, 0},
+        {0, 0, 5, 0},
+        {0, 0, DUTY_LIMIT, 0},
+        {1, 3, 5, -2},
+        {1, 5, 5, 0},
+        {1, 9, 5, 4},
+        {1, 0, 1, -1},
+        {1, 0, 0, 0},
+        {1, 0, DUTY_LIMIT, -DUTY_LIMIT},
+        {1, DUTY_LIMIT, DUTY_LIMIT, 0},
+        {1, DUTY_LIMIT, 0, DUTY_LIMIT},
+    };
+    for (size_t k = 0; k < sizeof conditions / sizeof conditions[0]; k++)
+        for (uint32_t included = 0; included <= 1; included++) {
+            uint32_t happened = conditions[k].happened;
+            struct state s = {happened, conditions[k].age, &nothing, included};
+            struct images i = waiting(DUTY_CONDITION, conditions[k].time, s);
+            uint8_t there = happened ? DUTY_BY : DUTY_NEVER, away = happened ? DUTY_IGNORED_BY : DUTY_IGNORED;
+            CHECK(has_margin(i, 1, included ? there : away, conditions[k].ticks));
+            CHECK(has_margin(i, 0, DUTY_NOT_A_CONDITION, 0));
+            holds_up(i, !happened || conditions[k].ticks < 0, included);
+            leave(i);
+        }
+}
+
+/* A milestone would block while its right event has something to do, due or not; it has no margin, whether that event is excluded or not. */
+static void tells_milestones(void)
+{
+    static const struct duty *const duties[] = {&nothing, &eventually, &now, &in_3};
+    for (size_t k = 0; k < sizeof duties / sizeof duties[0]; k++)
+        for (uint32_t bits = 0; bits < 4; bits++) {
+            struct state s = {bits / 2, 0, duties[k], bits % 2};
+            struct images i = waiting(DUTY_MILESTONE, 0, s);
+            CHECK(has_margin(i, 1, DUTY_NOT_A_CONDITION, 0));
+            holds_up(i, duties[k] != &nothing, s.included);
+            leave(i);
+        }
+}
+
+/* The lowest of the event's own relations that would block is named, where none does block. */
+static void names_the_lowest(void)
+{
+    static const uint32_t numbers[] = {
+        DUTY_CONDITION, 1, 2, 1, 0, /* 0: another event's */
+        DUTY_CONDITION, 0, 1, 1, 2, /* 1: event 1 happened two ticks ago */
+        DUTY_EXCLUSION, 0, 2, 0, 0,
+        DUTY_MILESTONE, 0, 2, 0, 0,
+        DUTY_CONDITION, 0, 2, 1, 0,
+        DUTY_CONDITION, 0, 3, 1, 0,
+        DUTY_CONDITION, 0, 0, 1, 0, /* 6: on itself */
+    };
+    static const struct state itself = {1, 0, &nothing, 1}, long_ago = {1, 2, &nothing, 0}, lately = {1, 1, &nothing, 0};
+    static const struct state open = {0, 0, &eventually, 0}, never = {0, 0, &nothing, 0}, there = {0, 0, &nothing, 1};
+    static struct draft d;
+    drafted(&d, 4, DUTY_CONTROLLABLE, 7, numbers);
+    memcpy(d.numbers, numbers, sizeof numbers);
+    struct images i = made(&d);
+    set_state(i, 0, itself);
+    set_state(i, 1, long_ago);
+    set_state(i, 2, open);
+    set_state(i, 3, never);
+    CHECK(has_hold_up(i, 0, DUTY_ENABLED_UNLESS, 3));
+    CHECK(has_hold_up(i, 1, DUTY_EXCLUDED, 0));
+    set_state(i, 1, lately);
+    CHECK(has_hold_up(i, 0, DUTY_ENABLED_UNLESS, 1));
+    set_state(i, 1, long_ago);
+    set_state(i, 2, never);
+    CHECK(has_hold_up(i, 0, DUTY_ENABLED_UNLESS, 4));
+    set_state(i, 3, there); /* it blocks, which comes before what would */
+    CHECK(has_hold_up(i, 0, DUTY_BLOCKED, 5));
+    set_state(i, 2, there);
+    CHECK(has_hold_up(i, 0, DUTY_BLOCKED, 4));
+    set_state(i, 2, long_ago);
+    set_state(i, 3, long_ago);
+    CHECK(has_hold_up(i, 0, DUTY_ENABLED, 0));
+    set_state(i, 1, there);
+    set_state(i, 2, never);
+    CHECK(has_hold_up(i, 1, DUTY_ENABLED_UNLESS, 0)); /* relation 0, by its kind another than none */
+    set_state(i, 0, never);
+    CHECK(has_hold_up(i, 0, DUTY_EXCLUDED, 0)); /* whatever would block it besides */
+    CHECK(has_margin(i, 6, DUTY_IGNORED, 0));
+    set_state(i, 0, lately);
+    CHECK(has_hold_up(i, 0, DUTY_EXCLUDED, 0) && has_margin(i, 6, DUTY_IGNORED_BY, 1));
+    leave(i);
+}
+
+/* All 256 relations are conditions of the last event, and every other event is excluded: the only one that would block, at each place. */
+static void names_at_the_limits(void)
+{
+    static const uint32_t numbers[DUTY_NUMBERS] = {DUTY_CONDITION, 63, 0, 1, 5};
+    static const struct state away = {1, 5, &nothing, 0};
+    static struct draft d;
+    for (size_t k = 0; k <= DUTY_MOST_RELATIONS; k++) {
+        drafted(&d, DUTY_MOST_EVENTS, DUTY_CONTROLLABLE, DUTY_MOST_RELATIONS, numbers);
+        for (uint32_t n = 0; n < DUTY_MOST_RELATIONS; n++)
+            d.numbers[DUTY_NUMBERS * n + DUTY_AT_RIGHT] = n % 63;
+        if (k < DUTY_MOST_RELATIONS)
+            d.numbers[DUTY_NUMBERS * k + DUTY_AT_TIME] = 6;
+        struct images i = made(&d);
+        for (size_t e = 0; e < 63; e++)
+            set_state(i, e, away);
+        shut(i.marking);
+        if (k < DUTY_MOST_RELATIONS)
+            CHECK(has_hold_up(i, 63, DUTY_ENABLED_UNLESS, k) && has_margin(i, k, DUTY_IGNORED_BY, -1));
+        else
+            CHECK(has_hold_up(i, 63, DUTY_ENABLED, 0) && has_margin(i, 255, DUTY_IGNORED_BY, 0));
+        leave(i);
+    }
+}
+
+/* Of what there is not, nothing is told. */
+static void tells_nothing(void)
+{
+    struct images i = waiting(DUTY_CONDITION, 5, (struct state){1, 3, &nothing, 0});
+    shut_answers();
+    CHECK(duty_margin(T(i), M(i), 2, SMALL, TICKS) == DUTY_NONE_SUCH);
+    CHECK(duty_margin(T(i), M(i), SIZE_MAX, SMALL, TICKS) == DUTY_NONE_SUCH);
+    CHECK(duty_hold_up(T(i), M(i), 2, SMALL, PLACE) == DUTY_NONE_SUCH);
+    CHECK(duty_hold_up(T(i), M(i), SIZE_MAX, SMALL, PLACE) == DUTY_NONE_SUCH);
+    open_answers();
+    leave(i);
 }
 
 /* What is read and what is not, and the first number where several apply. */
@@ -1104,6 +1298,11 @@ int main(void)
     keeps_a_date();
     keeps_a_date_while_causing();
     refuses_the_other_bits();
+    tells_the_rest();
+    tells_milestones();
+    names_the_lowest();
+    names_at_the_limits();
+    tells_nothing();
     keeps_the_limits();
     refuses_disagreeing_counts();
     reads_overlapping();
