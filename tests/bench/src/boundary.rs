@@ -3,6 +3,7 @@
 //! answers; here are random questions and what the second implementation says to
 //! them.
 
+use crate::wire::{hold_up_case, margin_case};
 use second::case::{Case, Pair};
 use second::generate::{self, marking_image, table_image};
 use second::rng::Rng;
@@ -77,6 +78,33 @@ const WRITE_FIRM: &str = "write_table, firm 1";
 const WRITE_NEITHER: &str = "write_table, firm above 1";
 const TOLD_FIRM: &str = "firm, told 1";
 
+/// What a margin that is done counts for, by its kind and the sign of its ticks.
+const MARGINS: [((u8, i32), &str); 9] = [
+    ((0, 0), "margin, not a condition"),
+    ((1, 0), "margin, ignored, else never"),
+    ((2, 0), "margin, never"),
+    ((3, -1), "margin, below 0"),
+    ((3, 0), "margin, 0"),
+    ((3, 1), "margin, above 0"),
+    ((4, -1), "margin, ignored, else below 0"),
+    ((4, 0), "margin, ignored, else 0"),
+    ((4, 1), "margin, ignored, else above 0"),
+];
+
+/// What a hold-up that is done counts for, by its kind.
+const HOLD_UPS: [&str; 4] = [
+    "hold_up, enabled",
+    "hold_up, excluded",
+    "hold_up, blocked",
+    "hold_up, enabled unless",
+];
+
+/// Each of these is looked for, beside the numbers.
+fn kinds() -> impl Iterator<Item = (&'static str, u8)> {
+    let margins = MARGINS.into_iter().map(|(_, name)| name);
+    margins.chain(HOLD_UPS).map(|name| (name, 0))
+}
+
 /// Which numbers came up, and of which call.
 pub type Seen = BTreeSet<(&'static str, u8)>;
 
@@ -98,6 +126,16 @@ pub struct Answer {
     count: [u8; 8],
     marking: Vec<u8>,
     second: Vec<u8>,
+}
+
+impl Answer {
+    /// Of a margin that is done: its ticks take the lower half of the large value.
+    fn margin(&self) -> &'static str {
+        let [a, b, c, d, ..] = self.large;
+        let sign = i32::from_le_bytes([a, b, c, d]).signum();
+        let kind = MARGINS.iter().find(|kind| kind.0 == (self.small, sign));
+        kind.expect("there is such a kind").1
+    }
 }
 
 /// So many bytes with something in them, now and then one less or some more.
@@ -339,6 +377,8 @@ impl Question {
             "write_table" if self.firm() == 1 => WRITE_FIRM,
             "write_table" if self.firm() > 1 => WRITE_NEITHER,
             "firm" if answer.large[0] == 1 => TOLD_FIRM,
+            "margin" if answer.number == 0 => answer.margin(),
+            "hold_up" if answer.number == 0 => HOLD_UPS[usize::from(answer.small)],
             name => name,
         };
         Some((name, answer.number))
@@ -366,16 +406,17 @@ impl Question {
             "plain_tick" => self.acted(&second::plain_tick(t, m)),
             "margin" => match second::margin(t, m, asked) {
                 MarginAnswer::Refused(number) => self.untouched(number),
-                MarginAnswer::NotACondition => self.ticks(0, 0),
-                MarginAnswer::Ignored => self.ticks(1, 0),
-                MarginAnswer::Never => self.ticks(2, 0),
-                MarginAnswer::By(ticks) => self.ticks(3, ticks),
+                told => {
+                    let (kind, ticks) = margin_case(&told);
+                    self.ticks(kind, ticks)
+                }
             },
             "hold_up" => match second::hold_up(t, m, asked) {
                 HoldUpAnswer::Refused(number) => self.untouched(number),
-                HoldUpAnswer::Enabled => self.told(0, 0, Some(0)),
-                HoldUpAnswer::Excluded => self.told(0, 1, Some(0)),
-                HoldUpAnswer::Blocked(relation) => self.told(0, 2, Some(relation as u64)),
+                told => {
+                    let (kind, relation) = hold_up_case(&told);
+                    self.told(0, kind, Some(relation as u64))
+                }
             },
             "check" => {
                 let told = second::check(t, m);
@@ -526,6 +567,7 @@ pub fn missing(seen: &Seen) -> Vec<(&'static str, u8)> {
     let of_calls = NUMBERS_OF
         .iter()
         .flat_map(|(name, numbers)| numbers.iter().map(|number| (*name, *number)))
+        .chain(kinds())
         .filter(|wanted| !seen.contains(wanted));
     of_any
         .map(|number| ("any call", number))
@@ -563,10 +605,13 @@ mod tests {
     #[test]
     fn a_number_that_does_not_come_up_is_missed() {
         let mut seen: Seen = NUMBERS.map(|number| ("run", number)).collect();
-        assert_eq!(missing(&seen).len(), 10 + 8 + 8 + 1 + 9 + 8 + 5 + 7 + 1);
+        let of_calls = 10 + 8 + 8 + 1 + 9 + 8 + 5 + 7 + 1;
+        assert_eq!(missing(&seen).len(), of_calls + 13);
         for (name, numbers) in NUMBERS_OF {
             seen.extend(numbers.iter().map(|&number| (name, number)));
         }
+        assert_eq!(missing(&seen), Vec::from_iter(kinds()));
+        seen.extend(kinds());
         assert_eq!(missing(&seen), []);
         seen.remove(&("write_table", 14));
         seen.remove(&("run", 13));
@@ -718,6 +763,87 @@ mod tests {
         // Three bytes behind the sixth place are no place.
         question.second = vec![7; 4 * 6 + 3];
         assert_eq!(question.expected(), question.untouched(14));
+    }
+
+    /// Event 0 waits for event 1, by a condition of 5 ticks or by a milestone; of event
+    /// 1 the first four bytes of its record, whether it is pending, and its count.
+    fn waiting(call: &str, kind: u8, past: [u8; 4], pending: bool) -> Question {
+        let condition = kind == 1;
+        let relation = [kind << 5, 2 + u8::from(condition), 0, 0, 0];
+        let mut marking = vec![0, 0, 0, 1, 0, 0, 0, 0, 0, 0, 0, 0];
+        marking.extend(past);
+        marking.extend([128 * u8::from(pending), 0, 0, 0, 0, 0, 0, past[0] >> 7]);
+        Question {
+            call: number_of(call),
+            asked: 0,
+            table: [
+                &[4, 1, 0, 0, 0, 0][..],
+                &relation,
+                &[20 * u8::from(condition)],
+            ]
+            .concat(),
+            marking,
+            first: Vec::new(),
+            second: Vec::new(),
+        }
+    }
+
+    /// What is seen of an answer, and its small and large value.
+    fn seen(question: &Question) -> (&'static str, u8, [u8; 8]) {
+        let answer = question.expected();
+        let seen = question.seen(&answer).expect("it is of no set");
+        assert_eq!(seen.1, 0);
+        (seen.0, answer.small, answer.large)
+    }
+
+    #[test]
+    fn each_kind_of_margin_is_told_and_seen() {
+        let happened = |age: u8, included: u8| [0x80, 0, 0, 2 * age + included];
+        let told = |ticks: i32| {
+            let mut large = [BEFORE; 8];
+            large[..4].copy_from_slice(&ticks.to_le_bytes());
+            large
+        };
+        for (past, kind, ticks, name) in [
+            ([0, 0, 0, 1], 2, 0, "never"),
+            (happened(3, 1), 3, -2, "below 0"),
+            (happened(5, 1), 3, 0, "0"),
+            (happened(9, 1), 3, 4, "above 0"),
+            ([0, 0, 0, 0], 1, 0, "ignored, else never"),
+            (happened(3, 0), 4, -2, "ignored, else below 0"),
+            (happened(5, 0), 4, 0, "ignored, else 0"),
+            (happened(9, 0), 4, 4, "ignored, else above 0"),
+        ] {
+            let question = waiting("margin", 1, past, false);
+            let name: &str = &format!("margin, {name}");
+            assert_eq!(seen(&question), (name, kind, told(ticks)));
+        }
+        let milestone = waiting("margin", 5, [0; 4], true);
+        assert_eq!(seen(&milestone), ("margin, not a condition", 0, told(0)));
+    }
+
+    #[test]
+    fn each_kind_of_hold_up_is_told_and_seen() {
+        for (included, pending, kind, name) in [
+            (0, false, 0, "enabled"),
+            (1, false, 0, "enabled"),
+            (1, true, 2, "blocked"),
+            (0, true, 3, "enabled unless"),
+        ] {
+            let mut question = waiting("hold_up", 5, [0, 0, 0, included], pending);
+            let name: &str = &format!("hold_up, {name}");
+            assert_eq!(seen(&question), (name, kind, [0; 8]));
+            question.marking[3] = 0;
+            assert_eq!(seen(&question), ("hold_up, excluded", 1, [0; 8]));
+        }
+        // A second relation like the first, which is then another event's.
+        let mut question = waiting("hold_up", 5, [0; 4], true);
+        let again = question.table[6..].to_vec();
+        question.table.extend(again);
+        question.table[1] = 2;
+        question.table[7] |= 0x80;
+        let second = [1, 0, 0, 0, 0, 0, 0, 0];
+        assert_eq!(seen(&question), ("hold_up, enabled unless", 3, second));
     }
 
     #[test]

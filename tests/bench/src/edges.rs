@@ -1,11 +1,13 @@
 //! The cases at the limits, the same in every run: each count, time and length
 //! at its limit and one past it, each spare bit, each field of a relation and of
 //! a record at each of its limits, faults where no call looks, and two faults at
-//! once, whose order decides the number; firm tables and tables that are not.
+//! once, whose order decides the number; firm tables and tables that are not; and
+//! excluded events that might return.
 
 mod carrying;
 mod counted;
 mod firm;
+mod returned;
 
 pub use carrying::carry_marking;
 pub use firm::remedies;
@@ -634,7 +636,9 @@ const EVENTS_ASKED: [usize; 6] = [0, 1, 40, 63, 64, usize::MAX];
 const RELATIONS_ASKED: [usize; 8] = [0, 1, 62, 125, 189, 255, 256, usize::MAX];
 
 pub fn enabled() -> Vec<Case> {
-    full_cases(&EVENTS_ASKED, |pair, event| Case::Enabled { pair, event })
+    let mut cases = full_cases(&EVENTS_ASKED, |pair, event| Case::Enabled { pair, event });
+    cases.extend(returned::enabled());
+    cases
 }
 
 pub fn request() -> Vec<Case> {
@@ -652,14 +656,18 @@ pub fn report() -> Vec<Case> {
 }
 
 pub fn hold_up() -> Vec<Case> {
-    full_cases(&EVENTS_ASKED, |pair, event| Case::HoldUp { pair, event })
+    let mut cases = full_cases(&EVENTS_ASKED, |pair, event| Case::HoldUp { pair, event });
+    cases.extend(returned::hold_ups());
+    cases
 }
 
 pub fn margin() -> Vec<Case> {
-    full_cases(&RELATIONS_ASKED, |pair, relation| Case::Margin {
+    let mut cases = full_cases(&RELATIONS_ASKED, |pair, relation| Case::Margin {
         pair,
         relation,
-    })
+    });
+    cases.extend(returned::margins());
+    cases
 }
 
 /// The judging that every call of the engine does first is asked here: each

@@ -3,13 +3,13 @@
 
 mod counted;
 mod firm;
+mod returned;
 
 use second::case::{Answer, Case, Pair};
-use second::{
-    check, due, guarded_tick, judge_table, HoldUpAnswer, MarginAnswer, Record, Relation, Table,
-};
+use second::{check, due, guarded_tick, judge_table, Record, Relation, Table};
 use std::collections::BTreeSet;
 
+const CONDITION: u8 = 1;
 const RESPONSE: u8 = 2;
 const INCLUDES: u8 = 3;
 const EXCLUDES: u8 = 4;
@@ -62,7 +62,7 @@ fn executed(case: &Case, answer: &Answer) -> Vec<usize> {
 fn blocks(pair: &Pair, kind: u8, right: usize) -> bool {
     let record = &pair.marking.records[right];
     let open = match kind {
-        1 => !record.happened,
+        CONDITION => !record.happened,
         MILESTONE => record.pending,
         _ => false,
     };
@@ -146,27 +146,6 @@ fn of_pair(pair: &Pair) -> Vec<&'static str> {
     }
 }
 
-fn of_margin(answer: &MarginAnswer) -> &'static str {
-    match answer {
-        MarginAnswer::Refused(_) => "refused",
-        MarginAnswer::NotACondition => "no condition",
-        MarginAnswer::Ignored => "ignored",
-        MarginAnswer::Never => "never",
-        MarginAnswer::By(..=-1) => "below zero",
-        MarginAnswer::By(0) => "zero",
-        MarginAnswer::By(_) => "above zero",
-    }
-}
-
-fn of_hold_up(answer: &HoldUpAnswer) -> &'static str {
-    match answer {
-        HoldUpAnswer::Refused(_) => "refused",
-        HoldUpAnswer::Enabled => "enabled",
-        HoldUpAnswer::Excluded => "excluded",
-        HoldUpAnswer::Blocked(_) => "blocked",
-    }
-}
-
 /// Of a table that is to be written, and the buffer lent for it. Past the limits
 /// of its counts there are no places, and no length that a buffer could have.
 fn of_written(table: &Table, buffer: &[u8]) -> Vec<&'static str> {
@@ -222,8 +201,10 @@ pub fn of(case: &Case, answer: &Answer) -> Vec<&'static str> {
     };
     let mut shapes = match (case, answer) {
         (Case::Closure { .. } | Case::Check { .. } | Case::GuardedTick { .. }, _) => of_pair(pair),
-        (_, Answer::Margin(margin)) => vec![of_margin(margin)],
-        (_, Answer::HoldUp(hold_up)) => vec![of_hold_up(hold_up)],
+        (_, Answer::Margin(margin)) => vec![returned::of_margin(margin)],
+        (Case::HoldUp { event, .. }, Answer::HoldUp(hold_up)) => {
+            returned::of_hold_up(pair, *event, hold_up)
+        }
         _ => Vec::new(),
     };
     shapes.extend(firm::of_table(&pair.table));

@@ -2,7 +2,9 @@
 //! forms; the trial program reads and writes the same.
 
 use second::case::{Answer, Case, Pair};
-use second::{HoldUpAnswer, MarginAnswer, Marking, Record, Relation, RemedyAnswer, Step, Table};
+use second::{
+    HoldUpAnswer, MarginAnswer, Marking, Record, Relation, RemedyAnswer, Rest, Step, Table,
+};
 
 /// The trial program's room for a payload.
 pub const MOST_PAYLOAD: usize = 20_000;
@@ -182,22 +184,24 @@ fn stretch<'a>(case: &'a Case, answer: &RemedyAnswer) -> &'a [u8] {
     }
 }
 
-/// Which of its cases a margin is, and its value.
-fn margin_case(answer: &MarginAnswer) -> (u8, i32) {
+/// Which of its cases a margin is, and its value. C is told the same two numbers.
+pub fn margin_case(answer: &MarginAnswer) -> (u8, i32) {
     match answer {
         MarginAnswer::Refused(_) | MarginAnswer::NotACondition => (0, 0),
-        MarginAnswer::Ignored => (1, 0),
+        MarginAnswer::Ignored(Rest::Never) => (1, 0),
         MarginAnswer::Never => (2, 0),
         MarginAnswer::By(value) => (3, *value),
+        MarginAnswer::Ignored(Rest::By(value)) => (4, *value),
     }
 }
 
-/// Which of its cases a hold-up is, and its relation.
-fn hold_up_case(answer: &HoldUpAnswer) -> (u8, usize) {
+/// Which of its cases a hold-up is, and its relation. C is told the same two numbers.
+pub fn hold_up_case(answer: &HoldUpAnswer) -> (u8, usize) {
     match answer {
         HoldUpAnswer::Refused(_) | HoldUpAnswer::Enabled => (0, 0),
         HoldUpAnswer::Excluded => (1, 0),
         HoldUpAnswer::Blocked(relation) => (2, *relation),
+        HoldUpAnswer::EnabledUnless(relation) => (3, *relation),
     }
 }
 
@@ -310,6 +314,36 @@ mod tests {
         assert_eq!(payload[18..], [7; 13]);
         let answered = answer(&case, &case.answer());
         assert_eq!(answered, [0, 0x80, 0, 0, 1, 0, 0, 0, 0, 0, 0, 0, 1, 7]);
+    }
+
+    fn on_the_wire(answered: Answer) -> Vec<u8> {
+        // What was asked does not show in these answers.
+        answer(&Case::Fresh { events: 1 }, &answered)
+    }
+
+    #[test]
+    fn a_margin_is_its_case_and_its_value() {
+        let of = |answer| on_the_wire(Answer::Margin(answer));
+        assert_eq!(of(MarginAnswer::Refused(8)), [8, 0, 0, 0, 0, 0]);
+        assert_eq!(of(MarginAnswer::NotACondition), [0, 0, 0, 0, 0, 0]);
+        assert_eq!(of(MarginAnswer::Ignored(Rest::Never)), [0, 1, 0, 0, 0, 0]);
+        assert_eq!(of(MarginAnswer::Never), [0, 2, 0, 0, 0, 0]);
+        assert_eq!(of(MarginAnswer::By(-2)), [0, 3, 254, 255, 255, 255]);
+        assert_eq!(of(MarginAnswer::Ignored(Rest::By(0))), [0, 4, 0, 0, 0, 0]);
+        let late = MarginAnswer::Ignored(Rest::By(-2));
+        assert_eq!(of(late), [0, 4, 254, 255, 255, 255]);
+    }
+
+    #[test]
+    fn a_hold_up_is_its_case_and_its_relation() {
+        let of = |answer| on_the_wire(Answer::HoldUp(answer));
+        let told = |number, case, low, high| vec![number, case, low, high, 0, 0, 0, 0, 0, 0];
+        assert_eq!(of(HoldUpAnswer::Refused(8)), told(8, 0, 0, 0));
+        assert_eq!(of(HoldUpAnswer::Enabled), told(0, 0, 0, 0));
+        assert_eq!(of(HoldUpAnswer::Excluded), told(0, 1, 0, 0));
+        assert_eq!(of(HoldUpAnswer::Blocked(258)), told(0, 2, 2, 1));
+        assert_eq!(of(HoldUpAnswer::EnabledUnless(258)), told(0, 3, 2, 1));
+        assert_eq!(of(HoldUpAnswer::EnabledUnless(0)), told(0, 3, 0, 0));
     }
 
     #[test]

@@ -28,7 +28,7 @@ pub use ask::{report, request};
 pub use carry::carry_marking;
 pub use check::{check, closure, Closure, Verdict};
 pub use decoded::{Marking, Record, Relation, Table};
-pub use enabled::{enabled, hold_up, margin, HoldUp, Margin};
+pub use enabled::{enabled, hold_up, margin, HoldUp, Margin, Rest};
 pub use guarded::{guarded_tick, Guarded};
 pub use image::{fresh, read_marking, read_table, write_marking, write_table};
 pub use judge::{judge_marking, judge_table};

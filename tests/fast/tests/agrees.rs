@@ -7,7 +7,7 @@ use second::case::{Answer, Case, Pair};
 use second::rng::Rng;
 use second::{
     generate, CheckAnswer, ClosureAnswer, EnabledAnswer, GuardedAnswer, HoldUpAnswer, MarginAnswer,
-    MarkingAnswer, ReadMarking, ReadTable, RemedyAnswer, SetAnswer, Step,
+    MarkingAnswer, ReadMarking, ReadTable, RemedyAnswer, Rest, SetAnswer, Step,
 };
 use std::collections::BTreeSet;
 
@@ -200,7 +200,10 @@ fn answer(case: &Case) -> Option<Answer> {
             Answer::Margin(match fast::margin(&t, &m, *relation) {
                 Err(number) => MarginAnswer::Refused(number),
                 Ok(fast::Margin::NotACondition) => MarginAnswer::NotACondition,
-                Ok(fast::Margin::Ignored) => MarginAnswer::Ignored,
+                Ok(fast::Margin::Ignored(fast::Rest::Never)) => MarginAnswer::Ignored(Rest::Never),
+                Ok(fast::Margin::Ignored(fast::Rest::By(ticks))) => {
+                    MarginAnswer::Ignored(Rest::By(ticks))
+                }
                 Ok(fast::Margin::Never) => MarginAnswer::Never,
                 Ok(fast::Margin::By(ticks)) => MarginAnswer::By(ticks),
             })
@@ -210,6 +213,7 @@ fn answer(case: &Case) -> Option<Answer> {
             Answer::HoldUp(match fast::hold_up(&t, &m, *event) {
                 Err(number) => HoldUpAnswer::Refused(number),
                 Ok(fast::HoldUp::Enabled) => HoldUpAnswer::Enabled,
+                Ok(fast::HoldUp::EnabledUnless(relation)) => HoldUpAnswer::EnabledUnless(relation),
                 Ok(fast::HoldUp::Excluded) => HoldUpAnswer::Excluded,
                 Ok(fast::HoldUp::Blocked(relation)) => HoldUpAnswer::Blocked(relation),
             })
@@ -351,6 +355,29 @@ fn firm_tables_and_others_agree() {
     firm_decides(generate::guarded_tick_case, 500);
     firm_decides(generate::remedies_case, 100);
     firm_decides(generate::run_bytes_case, 1000);
+}
+
+#[test]
+fn what_would_be_if_events_returned_agrees() {
+    let mut rng = Rng::new(8);
+    let (mut never, mut by, mut unless) = (0, 0, 0);
+    for _ in 0..20_000 {
+        let margin = agreed(&generate::margin_case(&mut rng));
+        if let Some(Answer::Margin(MarginAnswer::Ignored(rest))) = margin {
+            match rest {
+                Rest::Never => never += 1,
+                Rest::By(_) => by += 1,
+            }
+        }
+        let hold_up = agreed(&generate::hold_up_case(&mut rng));
+        if let Some(Answer::HoldUp(HoldUpAnswer::EnabledUnless(_))) = hold_up {
+            unless += 1;
+        }
+    }
+    assert!(
+        [never, by, unless].iter().all(|&n| n > 1000),
+        "{never}, {by}, {unless}"
+    );
 }
 
 /// How often each number comes up among the answers to steps of one kind.

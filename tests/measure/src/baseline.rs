@@ -1,7 +1,7 @@
 //! The baseline's side: the loops of the proved crate `timing`, over `fast`.
 
 use crate::calls::Calls;
-use fast::{HoldUp, Margin, Marking, Record, Relation, Remedy, Table, Verdict};
+use fast::{HoldUp, Margin, Marking, Record, Relation, Remedy, Rest, Table, Verdict};
 
 pub struct Baseline;
 
@@ -182,6 +182,7 @@ impl Calls for Baseline {
                 Ok(HoldUp::Enabled) => 16,
                 Ok(HoldUp::Excluded) => 17,
                 Ok(HoldUp::Blocked(relation)) => taken(18, relation as u64),
+                Ok(HoldUp::EnabledUnless(relation)) => taken(19, relation as u64),
             };
             taken(sum, word)
         })
@@ -192,7 +193,9 @@ impl Calls for Baseline {
             let word = match fast::margin(t, m, below(t.count, sum)) {
                 Err(number) => number.into(),
                 Ok(Margin::NotACondition) => 16,
-                Ok(Margin::Ignored) => 17,
+                Ok(Margin::Ignored(Rest::Never)) => 17,
+                Ok(Margin::Ignored(Rest::By(ticks))) if ticks < 0 => 21,
+                Ok(Margin::Ignored(Rest::By(_))) => 22,
                 Ok(Margin::Never) => 18,
                 Ok(Margin::By(ticks)) if ticks < 0 => 19,
                 Ok(Margin::By(_)) => 20,

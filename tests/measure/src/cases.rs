@@ -29,7 +29,9 @@ pub struct Input {
     table: Vec<u8>,
     rejected: Vec<u8>,
     firm: Vec<u8>,
+    waiting: Vec<u8>,
     quiet: Vec<u8>,
+    away: Vec<u8>,
     one_due: Vec<u8>,
     chain: Vec<u8>,
     two_due: Vec<u8>,
@@ -46,7 +48,9 @@ impl Input {
             table: table_image(&sized::table(size)),
             rejected: table_image(&sized::rejected_table(size)),
             firm: table_image(&sized::firm_table(size)),
+            waiting: table_image(&sized::waiting_table(size)),
             quiet: marking_image(&sized::quiet(size)),
+            away: marking_image(&sized::away(size)),
             one_due: marking_image(&sized::one_due(size)),
             chain: marking_image(&sized::chain(size)),
             two_due: marking_image(&sized::two_due(size)),
@@ -92,7 +96,7 @@ pub struct Case {
     pub run: fn(&mut Input, &dyn Calls, usize) -> u64,
 }
 
-pub const CASES: [Case; 24] = [
+pub const CASES: [Case; 26] = [
     case("read_table", |i, side, n| side.read_table(&mut i.table, n)),
     case("write_table", |i, side, n| {
         side.write_table(&i.table, &mut i.buffer, n)
@@ -113,7 +117,13 @@ pub const CASES: [Case; 24] = [
     }),
     case("enabled", |i, side, n| side.enabled(&i.table, &i.quiet, n)),
     case("hold_up", |i, side, n| side.hold_up(&i.table, &i.quiet, n)),
+    case("hold_up, enabled unless", |i, side, n| {
+        side.hold_up(&i.waiting, &i.away, n)
+    }),
     case("margin", |i, side, n| side.margin(&i.table, &i.quiet, n)),
+    case("margin, ignored", |i, side, n| {
+        side.margin(&i.waiting, &i.away, n)
+    }),
     case("due", |i, side, n| side.due(&i.table, &i.quiet, n)),
     case("request", |i, side, n| side.request(&i.table, &i.quiet, n)),
     case("report", |i, side, n| {

@@ -77,6 +77,23 @@ pub fn firm_table(size: Size) -> Table {
     table
 }
 
+/// Every event but the last waits for the last: by conditions, and by the last of its
+/// relations, a milestone.
+pub fn waiting_table(size: Size) -> Table {
+    let mut table = table(size);
+    let last = size.events - 1;
+    let conditions = size.relations.saturating_sub(last);
+    for n in 0..size.relations {
+        let left = n % last;
+        table.relations[n] = if n < conditions {
+            relation(1, left, last, Some(0))
+        } else {
+            relation(5, left, last, None)
+        };
+    }
+    table
+}
+
 /// Every event included, and happened or not, but for the first, which has
 /// happened and is pending with a deadline.
 fn marking(size: Size, happened: bool, deadline: u32) -> Marking {
@@ -100,6 +117,16 @@ fn marking(size: Size, happened: bool, deadline: u32) -> Marking {
 /// Nothing is due, and nothing blocks.
 pub fn quiet(size: Size) -> Marking {
     marking(size, true, 1000)
+}
+
+/// The last event is excluded. It has happened and is pending, so of the relations that
+/// wait for it only the milestones would block if it returned: they come last.
+pub fn away(size: Size) -> Marking {
+    let mut marking = quiet(size);
+    let last = &mut marking.records[size.events - 1];
+    last.included = false;
+    last.pending = true;
+    marking
 }
 
 /// Event 0 is due, and nothing blocks it.
@@ -149,7 +176,10 @@ pub fn repeats(size: Size, count: usize) -> Vec<u8> {
 mod tests {
     use super::*;
     use crate::cases::SIZES;
-    use second::{check, enabled, guarded_tick, remedies, report, request, run_bytes};
+    use second::{
+        check, enabled, guarded_tick, hold_up, margin, remedies, report, request, run_bytes,
+        HoldUpAnswer, MarginAnswer, Rest,
+    };
 
     #[test]
     fn the_check_accepts_what_is_to_be_accepted() {
@@ -202,6 +232,33 @@ mod tests {
                 };
                 assert_eq!(asked(&t, &m, event).number, 0);
             }
+        }
+    }
+
+    /// An event that waits for nothing is enabled, and no relation is named.
+    #[test]
+    fn what_would_block_comes_late() {
+        for size in SIZES {
+            let (t, m) = (waiting_table(size), away(size));
+            let last = size.events - 1;
+            for event in 0..last {
+                let own = (0..size.relations).filter(|n| n % last == event);
+                let named = own.max().map(HoldUpAnswer::EnabledUnless);
+                let expected = named.unwrap_or(HoldUpAnswer::Enabled);
+                assert_eq!(hold_up(&t, &m, event), expected, "{size:?}");
+            }
+            assert_eq!(hold_up(&t, &m, last), HoldUpAnswer::Excluded);
+        }
+    }
+
+    #[test]
+    fn conditions_on_an_excluded_event_are_ignored() {
+        for size in SIZES {
+            let (t, m) = (waiting_table(size), away(size));
+            let met = MarginAnswer::Ignored(Rest::By(0));
+            let ignored = (0..size.relations).filter(|&n| margin(&t, &m, n) == met);
+            let conditions = (size.relations + 1).saturating_sub(size.events);
+            assert_eq!(ignored.count(), conditions, "{size:?}");
         }
     }
 
