@@ -5,6 +5,7 @@ use rules::Relation;
 use rules::Table;
 ghost use mathlib.Core.Path.{_≡_};
 ghost use mathlib.Core.Bool.{_&&_};
+ghost use Prim.Native.Nat.{_≤_};
 ghost use lib.Dec.{eqb};
 ghost use Rattle.rules.specs.Counting.{lowest};
 ghost use Rattle.rules.specs.Enabled.{stops};
@@ -39,13 +40,14 @@ fn stops_event(k: Relation, r: Record, e: usize, returned: bool) -> bool
     false
 }
 
-// The lowest relation that blocks e, or would, or the count where none does.
-pub fn first_blocking(t: Table, m: Marking, e: usize, returned: bool) -> usize
+// The lowest relation that blocks e, or would, or the count where none does; it is known that none does before `from`.
+pub fn first_blocking(t: Table, m: Marking, e: usize, from: usize, returned: bool) -> usize
     requires { ⌜ Good t m ⌝ }
+    requires { ⌜ (from ≤ t .count) × (lowest from (blocksAs returned t m e) ≡ from) ⌝ }
     ensures { λ r. ⌜ r ≡ lowest (t .count) (blocksAs returned t m e) ⌝ }
 {
     let count = t.count;
-    let mut i = 0;
+    let mut i = from;
     let first = loop {
         if count <= i {
             break count;

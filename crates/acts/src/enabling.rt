@@ -15,26 +15,28 @@ pub fn is_enabled(t: Table, m: Marking, e: usize) -> bool
     ensures { λ r. ⌜ r ≡ isEnabled t m e ⌝ }
 {
     if m.records[e].included {
-        return !(first_blocking(t, m, e, false) < t.count);
+        return !(first_blocking(t, m, e, 0, false) < t.count);
     }
     false
 }
 
+// What blocks an event also would if its right event were included. So before the first that would block none does, and the search for one
+// that does goes on from there: the relations are gone through once.
 pub fn holding(t: Table, m: Marking, e: usize) -> HoldUpAnswer
     requires { ⌜ Good t m ⌝ }
     requires { ⌜ e < 64 ⌝ }
     ensures { λ r. ⌜ r ≡ holdUpOf t m e ⌝ }
 {
     if m.records[e].included {
-        let first = first_blocking(t, m, e, false);
+        let unless = first_blocking(t, m, e, 0, true);
+        if t.count <= unless {
+            return HoldUpAnswer::Enabled;
+        }
+        let first = first_blocking(t, m, e, unless, false);
         if first < t.count {
             return HoldUpAnswer::Blocked(first);
         }
-        let unless = first_blocking(t, m, e, true);
-        if unless < t.count {
-            return HoldUpAnswer::EnabledUnless(unless);
-        }
-        return HoldUpAnswer::Enabled;
+        return HoldUpAnswer::EnabledUnless(unless);
     }
     HoldUpAnswer::Excluded
 }

@@ -98,6 +98,10 @@ module _ (f : ℕ → Bool) where
   pub lowest-le : (n : ℕ) → lowest n f ≤ n
   lowest-le n = ⊎-elim (λ d. omega (arith, d .small)) (λ d. omega (arith, d .whole)) (lowest-cases n)
 
+  -- before the lowest it holds nowhere
+  pub lowest-before : (n y : ℕ) → y < lowest n f → f y ≡ false
+  lowest-before n y before = ⊎-elim (λ d. d .first y before) (λ d. d .nowhere y (rw (d .whole) at before)) (lowest-cases n)
+
   -- a number below n at which f holds, and below which it does not, is the lowest
   pub lowest-is : (n x : ℕ) → x < n → f x ≡ true → ((y : ℕ) → y < x → f y ≡ false) → lowest n f ≡ x
   lowest-is n x b h below =

@@ -5,19 +5,19 @@ use native.Mathlib.Omega.{arith}
 use borrow.Author.Needs.{needs}
 use Rattle.rules.specs.Counting.{lowest}
 use Rattle.rules.specs.Laws.Granted.{right-told}
-use Rattle.rules.specs.Laws.Counting.{lowest-zero, lowest-more, lowest-here}
+use Rattle.rules.specs.Laws.Counting.{lowest-more, lowest-here}
 use Rattle.acts.specs.Blocking.{blocksAs}
 use Rattle.acts.proofs.blocking.first_blocking.Statement.{statement}
 use Rattle.acts.proofs.blocking.first_blocking.Tie as tie
 
 abbrev Inv-loop : tie.InvT-loop
-Inv-loop e returned t m count i₀ i = (i ≤ count) × (count ≡ t .count) × (lowest i (blocksAs returned t m e) ≡ i)
+Inv-loop e from returned t m count i₀ i = (i ≤ count) × (count ≡ t .count) × (lowest i (blocksAs returned t m e) ≡ i)
 
 abbrev μ-loop : tie.MeasureT-loop
-μ-loop e returned t m count i₀ i = count - i
+μ-loop e from returned t m count i₀ i = count - i
 
 loop-holds : tie.Need-loop-holds Inv-loop μ-loop
-loop-holds c = (search needs, search needs, lowest-zero _)
+loop-holds c = (search needs, search needs, search needs)
 
 mul-k : tie.Need-mul-k Inv-loop μ-loop
 mul-k c = omega arith
@@ -32,7 +32,7 @@ mul-r : tie.Need-mul-r Inv-loop μ-loop
 mul-r c = omega arith
 
 element-copy-out-r : tie.Need-element-copy-out-r Inv-loop μ-loop
-element-copy-out-r c = right-told (c .before .before .before .before .pre .table-good) _ (omega arith)
+element-copy-out-r c = right-told (c .before .before .before .before .pre .0 .table-good) _ (omega arith)
 
 stops-event-requires : tie.Need-stops-event-requires Inv-loop μ-loop
 stops-event-requires c κs = tt

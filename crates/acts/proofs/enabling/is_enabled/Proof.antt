@@ -1,7 +1,7 @@
 -- Included, and no relation blocks: the lowest that blocks is not below the count. Assumes nothing.
 use borrow.Author.Needs.{needs}
 use Rattle.rules.specs.Enabled.{isEnabled}
-use Rattle.rules.specs.Laws.Counting.{lowest-some}
+use Rattle.rules.specs.Laws.Counting.{lowest-zero, lowest-some}
 use Rattle.acts.specs.Laws.Blocking.{lowest-now}
 use Rattle.acts.proofs.enabling.is_enabled.Statement.{statement}
 use Rattle.acts.proofs.enabling.is_enabled.Tie as tie
@@ -13,7 +13,7 @@ element-copy-out-if1 : tie.Need-element-copy-out-if1
 element-copy-out-if1 c = search needs
 
 first-blocking-requires : tie.Need-first-blocking-requires
-first-blocking-requires c κs = search needs
+first-blocking-requires c κs = (c .before .pre .0, (search needs, lowest-zero _))
 
 returns : tie.Need-returns
 unfolding isEnabled
