@@ -2,25 +2,24 @@
 -- the only place where effect and time are opened. A place that the marking's list does not have stays empty, so nothing is asked of the
 -- list's length. Assumes nothing.
 use mathlib.Core.Path.{_≡_, refl, _∙_, ap, sym, subst}
-use mathlib.Core.Bool.{Bool, true, false, not, _&&_, cond}
+use mathlib.Core.Bool.{Bool, true, false, _&&_, cond}
 use mathlib.Core.Logic.{_⊎_, ⊎-elim, inl, inr}
 use Prim.Native.Nat.{ℕ, _<_, _≤_, _+_, _-_, min}
 use lib.Dec.{eqb, ltb}
 use lib.ListN.{getD, length, List·getD-eq-default}
-use borrow.Author.Tests.{eqb-true, eq-eqb, ne-eqb, ltb-true, ltb-false, le-leb}
+use borrow.Author.Tests.{eqb-true, eq-eqb, ne-eqb, ltb-true, ltb-false}
 use Rattle.rules.specs.declared.Relation.{Relation}
 use Rattle.rules.specs.declared.Table.{Table}
 use Rattle.rules.specs.declared.Record.{Record}
 use Rattle.rules.specs.declared.Marking.{Marking}
 use Rattle.rules.specs.Counting.{some, eachBelow}
-use Rattle.rules.specs.Holds.{countLimit, mostEvents, isResponse, isInclusion, isExclusion, emptyRecord, relationOf, recordOf, withRecords}
-use Rattle.rules.specs.Judge.{eventsFit, tableNumber, recordFits, recordNumber, markingNumber, markingNumberFor, judged}
+use Rattle.rules.specs.Holds.{countLimit, isResponse, isInclusion, isExclusion, emptyRecord, relationOf, recordOf, withRecords}
+use Rattle.rules.specs.Judge.{recordFits, judged}
 use Rattle.rules.specs.Effect.{Deadline, within, eventually, deadlineOf, isPending, isBounded, leads, excludes, includes, response, effectAt, effect}
 use Rattle.rules.specs.Time.{later, time}
 use Rattle.rules.specs.Deadline.{noLater}
 use Rattle.rules.specs.Laws.Tests.{clash, denied, both, join}
 use Rattle.rules.specs.Laws.Counting.{some-where, length-each-below, each-below-changed}
-use Rattle.rules.specs.Laws.Numbers.{if-kept, both-done, first-done}
 use Rattle.rules.specs.Shapes.Good.{GoodTable}
 use Rattle.rules.specs.Laws.Judge.{good, judged-again}
 use Rattle.rules.specs.Demand3.Response.{asked, Responds, response-gives}

@@ -23,7 +23,7 @@ use Rattle.rules.specs.Including.{asIncluded, including}
 use Rattle.rules.specs.HoldUp.{wouldBlock, holdUpOf, holdUp}
 use Rattle.rules.specs.Shapes.Good.{Good}
 use Rattle.rules.specs.Laws.Tests.{clash, denied, both, join, not-true}
-use Rattle.rules.specs.Laws.Counting.{some-not, some-false, lowest-some, lowest-cases, Found, Lacks}
+use Rattle.rules.specs.Laws.Counting.{some-not, some-false, lowest-some, lowest-cases, Found}
 use Rattle.rules.specs.Laws.Numbers.{by-number}
 use Rattle.rules.specs.Laws.Granted.{event-told, right-told}
 use Rattle.rules.specs.Laws.Including.{including-own, including-other, including-keeps}

@@ -1,6 +1,5 @@
 -- By the answer's cases. Assumes nothing.
 use mathlib.Core.Path.{sym, ap}
-use Rattle.rules.specs.declared.HoldUpAnswer.{HoldUpAnswer}
 use Rattle.rules.specs.Numbers.{holdUpInNumbers}
 use borrow.Author.Needs.{needs}
 use Rattle.duty.proofs.telling.hold_up.Statement.{statement}

@@ -2,7 +2,6 @@
 use mathlib.Core.Path.{_∙_, sym, ap}
 use mir.Syntax.{w32}
 use mir.Facts.{toZ-ofZ}
-use Rattle.rules.specs.declared.MarginAnswer.{MarginAnswer}
 use Rattle.rules.specs.Numbers.{marginInNumbers}
 use borrow.Author.Needs.{needs}
 use Rattle.duty.proofs.telling.margin.Statement.{statement}
