@@ -9,6 +9,7 @@ use Rattle.rules.specs.declared.Record.{Record}
 use Rattle.rules.specs.declared.Marking.{Marking}
 use Rattle.rules.specs.declared.Step.{Step}
 use Rattle.rules.specs.Holds.{mostEvents, mostRelations, emptyRelation, emptyRecord}
+use Rattle.rules.specs.Including.{withIncluded}
 
 -- relations, by what they say
 abbrev pub condition : ℕ → ℕ → ℕ → Relation
@@ -78,15 +79,7 @@ happened a = happenedTimes a 1
 
 -- the same record, its event excluded
 abbrev pub away : Record → Record
-away r = record {
-  age = r .age;
-  deadline = r .deadline;
-  happened = r .happened;
-  included = false;
-  pending = r .pending;
-  bounded = r .bounded;
-  count = r .count;
-}
+away r = withIncluded false r
 
 -- steps
 abbrev pub request : ℕ → Step

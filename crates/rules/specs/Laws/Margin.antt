@@ -79,20 +79,17 @@ margin-stops k r condition = rw condition (go (r .included) (r .happened) refl r
     go true false p q = rw (p, q)
     go true true p q = rw (p, q) (or-false (not (leb (k .time) (r .age))) ∙ late (r .age) (k .time))
 
--- Ignored: an answer that is so, and its rest
-abbrev isIgnored : MarginAnswer → Bool
-isIgnored (Refused number) = false
-isIgnored NotACondition = false
-isIgnored (Ignored rest) = true
-isIgnored Never = false
-isIgnored (By ticks) = false
+-- what is made of an ignored margin's rest, and what stands for it in any other answer
+module _ {A : Type 0} where
+  abbrev ofIgnored : (Rest → A) → A → MarginAnswer → A
+  ofIgnored f none (Refused number) = none
+  ofIgnored f none NotACondition = none
+  ofIgnored f none (Ignored rest) = f rest
+  ofIgnored f none Never = none
+  ofIgnored f none (By ticks) = none
 
-abbrev restIn : MarginAnswer → Rest
-restIn (Refused number) = never
-restIn NotACondition = never
-restIn (Ignored rest) = rest
-restIn Never = never
-restIn (By ticks) = never
+abbrev isIgnored : MarginAnswer → Bool
+isIgnored = ofIgnored (λ rest. true) false
 
 not-outright : (rest : Rest) → isIgnored (outright rest) ≡ false
 not-outright never = refl
@@ -108,7 +105,7 @@ as-included k r {rest} = go (isCondition k) (r .included)
         → cond (not condition) NotACondition (outright (restOf k r)) ≡ outright rest
     go false included is = absurd (clash (ap isIgnored is) refl)
     go true true is = absurd (clash (ap isIgnored is) (not-outright (restOf k r)))
-    go true false is = ap (λ a. outright (restIn a)) is
+    go true false is = ap (ofIgnored outright Never) is
 
 pub ignored-as-included : (t : Table) (m : Marking) (k : ℕ) {rest : Rest} → margin t m k ≡ Ignored rest
     → margin t (including (relationOf t k .right) m) k ≡ outright rest
