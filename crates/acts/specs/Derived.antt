@@ -8,10 +8,9 @@ use lib.ListN.{length, getD, set}
 use Rattle.rules.specs.declared.Relation.{Relation}
 use Rattle.rules.specs.declared.Table.{Table}
 use Rattle.rules.specs.Counting.{some}
-use Rattle.rules.specs.EventSet.{has}
+use Rattle.rules.specs.EventSet.{has, withEvent}
 use Rattle.rules.specs.Holds.{isCondition, isResponse, isInclusion, isMilestone, relationOf}
 use Rattle.rules.specs.Effect.{leads}
-use Rattle.rules.specs.Shapes.Sets.{withEvent}
 use Rattle.acts.specs.declared.derived.Head.{Head}
 
 -- 0 a condition without a time, 1 with one; 2 a milestone; 3 a bounded response, 4 an eventual one; 5 an inclusion of another event; 6 an

@@ -13,7 +13,7 @@ ghost use Rattle.rules.specs.Shapes.Good.{Good};
 ghost use Rattle.acts.specs.Blocking.{asIf, blocksAs};
 
 // A relation stops its left event, where r is the record of its right event, or would if that had returned.
-fn stops(k: Relation, r: Record, returned: bool) -> bool
+pub fn stops(k: Relation, r: Record, returned: bool) -> bool
     ensures { λ b. ⌜ b ≡ stops k (asIf returned r) ⌝ }
 {
     if returned || r.included {

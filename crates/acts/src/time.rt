@@ -9,9 +9,8 @@ ghost use Prim.Native.Nat.{ℕ, _<_, _≤_, _+_};
 ghost use lib.Dec.{leb};
 ghost use Rattle.rules.specs.declared.Record.{Record};
 ghost use Rattle.rules.specs.declared.Marking.{Marking};
-ghost use Rattle.rules.specs.EventSet.{has};
+ghost use Rattle.rules.specs.EventSet.{has, withEvent};
 ghost use Rattle.rules.specs.Time.{dueSet, time};
-ghost use Rattle.rules.specs.Shapes.Sets.{withEvent};
 ghost use Rattle.acts.specs.Stands.{Stands, mayBeDue};
 
 // The included, pending and bounded events below n.

@@ -4,8 +4,7 @@ ghost use mathlib.Core.Path.{_≡_};
 ghost use Prim.Native.Nat.{ℕ, _<_, _≤_};
 ghost use lib.Dec.{ltb};
 ghost use mathlib.Core.Bool.{_&&_, not};
-ghost use Rattle.rules.specs.EventSet.{has, lowestOf};
-ghost use Rattle.rules.specs.Shapes.Sets.{withEvent};
+ghost use Rattle.rules.specs.EventSet.{has, lowestOf, withEvent};
 
 // The set, with the event.
 pub fn adding(set: u64, event: usize) -> u64

@@ -10,11 +10,10 @@ use lib.ListN.{length, getD, set}
 use Rattle.rules.specs.declared.Relation.{Relation}
 use Rattle.rules.specs.declared.Table.{Table}
 use Rattle.rules.specs.Counting.{some}
-use Rattle.rules.specs.EventSet.{has}
+use Rattle.rules.specs.EventSet.{has, withEvent}
 use Rattle.rules.specs.Holds.{isResponse, relationOf}
 use Rattle.rules.specs.Effect.{leads}
 use Rattle.rules.specs.Closure.{followed}
-use Rattle.rules.specs.Shapes.Sets.{withEvent}
 use Rattle.acts.specs.Derived.{rowOf}
 
 -- all inhibitors: the right events of e's conditions, of any time, and of its milestones

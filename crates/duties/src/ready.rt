@@ -6,8 +6,7 @@ ghost use mathlib.Core.Bool.{_&&_, cond};
 ghost use Prim.Native.Nat.{ℕ, _<_};
 ghost use lib.Dec.{eqb};
 ghost use lib.ListN.{length, getD, replicate};
-ghost use Rattle.rules.specs.EventSet.{has};
-ghost use Rattle.rules.specs.Shapes.Sets.{withEvent};
+ghost use Rattle.rules.specs.EventSet.{has, withEvent};
 ghost use Rattle.duties.specs.Inhibition.{followedIn, readyIn};
 ghost use Rattle.duties.specs.Taking.{Awaits};
 

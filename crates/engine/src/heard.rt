@@ -1,7 +1,7 @@
 // The station's input, part by part: a table as long as its header says, a marking, then steps to the end.
-use crate::judge;
 use crate::trace::bytes_number;
 use crate::trace::played;
+use image::judging;
 use rules::Marking;
 use rules::Step;
 use rules::Table;
@@ -71,7 +71,7 @@ fn table_part(input: &[u8]) -> usize
 fn long_number(t: Table, m: Marking, kept: usize, beyond: usize) -> u8
     ensures { λ r. ⌜ r ≡ (judged t m else 1 if eqb ((kept + beyond) % 2) 1 else 14) ⌝ }
 {
-    let number = judge::then_marking(image::judge_table(t), t.events, m);
+    let number = judging::then_marking(image::judge_table(t), t.events, m);
     if number == 0 {
         if (kept % 2 + beyond % 2) % 2 == 1 {
             return 1;

@@ -2,7 +2,6 @@
 // crate `rules`, whole.
 mod asking;
 mod heard;
-mod judge;
 mod refusing;
 mod remedy;
 mod trace;
@@ -16,6 +15,7 @@ use acts::waiting;
 use duties::following;
 use duties::guard;
 use duties::reasons;
+use image::judging;
 use rules::CheckAnswer;
 use rules::ClosureAnswer;
 use rules::EnabledAnswer;
@@ -63,8 +63,8 @@ pub fn lowest(set: u64) -> u32
 pub fn enabled(t: Table, m: Marking, event: usize) -> EnabledAnswer
     ensures { λ r. ⌜ r ≡ enabledAnswer t m event ⌝ }
 {
-    let judged = judge::then_marking(image::judge_table(t), t.events, m);
-    let number = judge::then_event(judged, t.events, event);
+    let judged = judging::then_marking(image::judge_table(t), t.events, m);
+    let number = judging::then_event(judged, t.events, event);
     if number == 0 {
         let enabled = enabling::is_enabled(t, m, event);
         return EnabledAnswer { number: 0, enabled };
@@ -79,7 +79,7 @@ pub fn enabled(t: Table, m: Marking, event: usize) -> EnabledAnswer
 pub fn due(t: Table, m: Marking) -> SetAnswer
     ensures { λ r. ⌜ r ≡ dueAnswer t m ⌝ }
 {
-    let number = judge::then_marking(image::judge_table(t), t.events, m);
+    let number = judging::then_marking(image::judge_table(t), t.events, m);
     if number == 0 {
         let mut sets = [0; 4];
         let mut columns = [0; 192];
@@ -94,7 +94,7 @@ pub fn due(t: Table, m: Marking) -> SetAnswer
 pub fn request(t: Table, m: Marking, event: usize) -> MarkingAnswer
     ensures { λ r. ⌜ r ≡ request t m event ⌝ }
 {
-    let number = judge::then_marking(image::judge_table(t), t.events, m);
+    let number = judging::then_marking(image::judge_table(t), t.events, m);
     if number == 0 {
         return asking::asked(t, m, event, true);
     }
@@ -105,7 +105,7 @@ pub fn request(t: Table, m: Marking, event: usize) -> MarkingAnswer
 pub fn report(t: Table, m: Marking, event: usize) -> MarkingAnswer
     ensures { λ r. ⌜ r ≡ report t m event ⌝ }
 {
-    let number = judge::then_marking(image::judge_table(t), t.events, m);
+    let number = judging::then_marking(image::judge_table(t), t.events, m);
     if number == 0 {
         return asking::asked(t, m, event, false);
     }
@@ -116,7 +116,7 @@ pub fn report(t: Table, m: Marking, event: usize) -> MarkingAnswer
 pub fn plain_tick(t: Table, m: Marking) -> MarkingAnswer
     ensures { λ r. ⌜ r ≡ plainTick t m ⌝ }
 {
-    let number = judge::then_marking(image::judge_table(t), t.events, m);
+    let number = judging::then_marking(image::judge_table(t), t.events, m);
     if number == 0 {
         let mut sets = [0; 4];
         let mut columns = [0; 192];
@@ -141,7 +141,7 @@ pub fn margin(t: Table, m: Marking, relation: usize) -> MarginAnswer
     ensures answer { λ r. ⌜ r ≡ margin t m relation ⌝ }
     ensures told { λ r. ⌜ marginInNumbers r ≡ toldMargin t m relation ⌝ }
 {
-    let number = judge::then_marking(image::judge_table(t), t.events, m);
+    let number = judging::then_marking(image::judge_table(t), t.events, m);
     if number == 0 {
         if relation < t.count {
             let k = t.relations[relation];
@@ -159,8 +159,8 @@ pub fn hold_up(t: Table, m: Marking, event: usize) -> HoldUpAnswer
     ensures answer { λ r. ⌜ r ≡ holdUp t m event ⌝ }
     ensures told { λ r. ⌜ holdUpInNumbers r ≡ toldHoldUp t m event ⌝ }
 {
-    let judged = judge::then_marking(image::judge_table(t), t.events, m);
-    let number = judge::then_event(judged, t.events, event);
+    let judged = judging::then_marking(image::judge_table(t), t.events, m);
+    let number = judging::then_event(judged, t.events, event);
     if number == 0 {
         return enabling::holding(t, m, event);
     }
@@ -171,7 +171,7 @@ pub fn hold_up(t: Table, m: Marking, event: usize) -> HoldUpAnswer
 pub fn closure(t: Table, m: Marking) -> ClosureAnswer
     ensures { λ r. ⌜ r ≡ closureAnswer t m ⌝ }
 {
-    let number = judge::then_marking(image::judge_table(t), t.events, m);
+    let number = judging::then_marking(image::judge_table(t), t.events, m);
     if number == 0 {
         let mut words = [0; 64];
         let mut answers = 0;
@@ -206,7 +206,7 @@ pub fn check(t: Table, m: Marking) -> CheckAnswer
     ensures answer { λ r. ⌜ r ≡ check t m ⌝ }
     ensures told { λ r. ⌜ checkInNumbers r ≡ toldCheck t m ⌝ }
 {
-    let number = judge::then_marking(image::judge_table(t), t.events, m);
+    let number = judging::then_marking(image::judge_table(t), t.events, m);
     if number == 0 {
         let mut rows = [0; 640];
         let mut sets = [0; 4];
@@ -224,7 +224,7 @@ pub fn check(t: Table, m: Marking) -> CheckAnswer
 pub fn guarded_tick(t: Table, m: Marking) -> GuardedAnswer
     ensures { λ r. ⌜ r ≡ guardedTick t m ⌝ }
 {
-    let number = judge::then_marking(image::judge_table(t), t.events, m);
+    let number = judging::then_marking(image::judge_table(t), t.events, m);
     if number != 0 {
         return refusing::nothing(number, 0, 0, m);
     }
@@ -279,7 +279,7 @@ pub fn remedies<'a>(
         (preferred .entry .ptr) ⌝ }
     ensures number { λ _. ⌜ now (number .exit) ≡ remedy t m (now (preferred .entry)) (now (fallback .entry)) .number ⌝ }
 {
-    let refusal = judge::then_marking(image::judge_table(t), t.events, m);
+    let refusal = judging::then_marking(image::judge_table(t), t.events, m);
     if refusal != 0 {
         *number = refusal;
         return &preferred[..0];

@@ -1,9 +1,9 @@
 // The trace runner. The table and the marking are judged once, at the start, and laid out as words once; each step then needs no judging, and
 // the check is not asked again once it has accepted.
-use crate::judge;
 use acts::derived;
 use acts::laid;
 use duties::step;
+use image::judging;
 use rules::Marking;
 use rules::MarkingAnswer;
 use rules::Step;
@@ -37,7 +37,7 @@ fn trace_number(steps: usize, room: usize) -> u8
 pub fn bytes_number(t: Table, m: Marking, bytes: usize, room: usize) -> u8
     ensures { λ r. ⌜ r ≡ (judged t m else 1 if eqb (bytes % 2) 1 else traceNumber (bytes / 2) room) ⌝ }
 {
-    let number = judge::then_marking(image::judge_table(t), t.events, m);
+    let number = judging::then_marking(image::judge_table(t), t.events, m);
     if number == 0 {
         if bytes % 2 == 1 {
             return 1;
@@ -67,7 +67,7 @@ pub struct Words {
 pub fn begun(t: Table, m: Marking, steps: usize, room: usize) -> Running
     ensures { λ r. ⌜ r ≡ begunRun t m steps room ⌝ }
 {
-    let mut number = judge::then_marking(image::judge_table(t), t.events, m);
+    let mut number = judging::then_marking(image::judge_table(t), t.events, m);
     if number == 0 {
         number = trace_number(steps, room);
         if number == 0 {

@@ -1,6 +1,7 @@
 // The image reader: tables and markings in and out. Nothing enters the engine that it did not judge, and nothing leaves that it cannot read back.
 mod bits;
 mod judge;
+pub mod judging;
 mod marking;
 mod table;
 

@@ -21,6 +21,7 @@ use Rattle.rules.specs.declared.MarginAnswer.{MarginAnswer}
 use Rattle.rules.specs.declared.MarginAnswer.the-variants.{NotACondition, Ignored, Never, By}
 use Rattle.rules.specs.declared.HoldUpAnswer.{HoldUpAnswer}
 use Rattle.rules.specs.declared.HoldUpAnswer.the-variants.{Enabled, EnabledUnless, Excluded, Blocked}
+use Rattle.rules.specs.declared.ChainAnswer.{ChainAnswer}
 use Rattle.rules.specs.declared.CheckAnswer.{CheckAnswer}
 use Rattle.rules.specs.declared.CheckAnswer.the-variants.{Accepts, Rejects}
 use Rattle.rules.specs.declared.ToldMargin.{ToldMargin}
@@ -30,7 +31,7 @@ use Rattle.rules.specs.declared.GuardedAnswer.{GuardedAnswer}
 use Rattle.rules.specs.declared.RemedyAnswer.{RemedyAnswer}
 use Rattle.rules.specs.Counting.{every, some, lowest, howMany, repeated, placesFrom, belowFrom}
 use Rattle.rules.specs.Numbers.{firstOf}
-use Rattle.rules.specs.EventSet.{has, setOf, sizeOf, lowestOf}
+use Rattle.rules.specs.EventSet.{has, withEvent, setOf, sizeOf, lowestOf}
 use Rattle.rules.specs.Holds.{countLimit, emptyMarking, recordOf}
 use Rattle.rules.specs.Fields.{field, bit, bytesOf}
 use Rattle.rules.specs.Pieces.{pieces}
@@ -45,6 +46,7 @@ use Rattle.rules.specs.Time.{isDue, anyDue, dueSet, later, time, plainTi
 use Rattle.rules.specs.Ask.{requestNumber, reportNumber, request, report}
 use Rattle.rules.specs.Margin.{restOf, marginOf, margin, toldMargin}
 use Rattle.rules.specs.HoldUp.{wouldBlock, holdUpOf, holdUp, toldHoldUp}
+use Rattle.rules.specs.Chain.{Link, link, along, visit, chain, chainNumber, chainAnswer, placesOf, chainList}
 use Rattle.rules.specs.Closure.{busy, follows, widened, widenedFully, closure, closureAnswer}
 use Rattle.rules.specs.Check.{unreportable, uncausable, waiting, awaited, onCycle, reopening, reviving, verdict, check, reasonOf, placeOf, toldCheck}
 use Rattle.rules.specs.Guard.{holdsBack, needed, ready, orderOf, taken, takenAll, executedOf, caused, guarded, guardedTick}
@@ -100,6 +102,8 @@ pub data Question : Type 0 where
   classAsked : List ℕ → ℕ → Question
   carryOf : ℕ → List ℕ → ℕ → Question
   carryBuffer : ℕ → List ℕ → List ℕ → Question
+  chainOf : ℕ → ℕ → Question
+  chainBuffer : ℕ → List ℕ → Question
 
 pub data Answer : Type 0 where
   verdicts : CheckAnswer → Answer
@@ -115,6 +119,7 @@ pub data Answer : Type 0 where
   events : List ℕ → Answer
   marks : MarkingAnswer → Answer
   enables : EnabledAnswer → Answer
+  chained : ChainAnswer → Answer
   toldBy : ToldMargin → Answer
   toldHold : ToldHoldUp → Answer
   toldVerdict : ToldCheck → Answer
@@ -172,6 +177,8 @@ answer t m (firmAsked table) = bytes (readTable table .number ∷ bit (tableOf t
 answer t m (relationAsked table k places) = bytes (relationTold table k places)
 answer t m (carryOf n old room) = number (carryNumber n old room)
 answer t m (carryBuffer n old buffer) = bytes (carryMarking n old buffer)
+answer t m (chainOf e room) = chained (chainAnswer t m e room)
+answer t m (chainBuffer e list) = bytes (chainList t m e list)
 answer t m (classAsked table e) = bytes (classToldNumber table e ∷ classByte (tableOf table) e ∷ [])
 
 abbrev asks : Table → Marking → Question → Answer → Case
@@ -520,10 +527,72 @@ returning =
     twoConditions : Table
     twoConditions = shop.table 3 7 7 (shop.condition 0 1 5 ∷ shop.condition 0 2 0 ∷ [])
 
+unfoldable pub chaining : List Case
+chaining =
+    -- after a leak the flush waits for isolate, and for drain; at the start it is excluded, and opens nothing
+    after (shop.leak ∷ []) (listOf 1) (lists (link 1 0 ∷ link 4 0 ∷ []))
+    ∷ after [] (listOf 1) (lists [])
+    -- and what waits for nothing has no chain
+    ∷ after [] (listOf 2) (lists [])
+    -- a relation, all below it, then the next. Not by depth; not by number
+    ∷ fresh 4 (waits 0 1 ∷ waits 0 3 ∷ waits 1 2 ∷ []) (listOf 0) (lists (link 0 0 ∷ link 2 1 ∷ link 1 0 ∷ []))
+    -- a cycle ends, also of one event. Not again and again
+    ∷ fresh 2 (waits 0 1 ∷ waits 1 0 ∷ []) (listOf 0) (lists (link 0 0 ∷ link 1 1 ∷ []))
+    ∷ fresh 2 (waits 0 1 ∷ waits 1 0 ∷ []) (listOf 1) (lists (link 1 0 ∷ link 0 1 ∷ []))
+    ∷ fresh 1 (waits 0 0 ∷ []) (listOf 0) (lists (link 0 0 ∷ []))
+    -- an event that two lead to is opened at its first visit: the second is listed, and not what is below. Not link 4 twice; not without link 3
+    ∷ fresh 5 (waits 0 1 ∷ waits 0 2 ∷ waits 1 3 ∷ waits 2 3 ∷ waits 3 4 ∷ []) (listOf 0)
+    (lists (link 0 0 ∷ link 2 1 ∷ link 4 2 ∷ link 1 0 ∷ link 3 1 ∷ []))
+    -- the first visit may be the deeper one. Not link 3 1
+    ∷ fresh 4 (waits 0 1 ∷ waits 1 2 ∷ waits 0 2 ∷ waits 2 3 ∷ []) (listOf 0) (lists (link 0 0 ∷ link 1 1 ∷ link 3 2 ∷ link 2 0 ∷ []))
+    -- two relations to one event are both listed
+    ∷ fresh 2 (waits 0 1 ∷ waits 0 1 ∷ []) (listOf 0) (lists (link 0 0 ∷ link 1 0 ∷ []))
+    -- a condition that holds leads nowhere, nor does an excluded event
+    ∷ ladder shop.idle (shop.happened 0) shop.idle (listOf 0) (lists [])
+    ∷ ladder shop.idle shop.excluded shop.idle (listOf 0) (lists [])
+    ∷ ladder shop.idle shop.idle shop.excluded (listOf 0) (lists (link 0 0 ∷ []))
+    -- only what is below the asked event
+    ∷ down (listOf 1) (lists (link 1 0 ∷ []))
+    -- how many; places past them stay
+    ∷ down (chainOf 0 256) (chained (record { number = 0; count = 2 }))
+    ∷ down (chainBuffer 0 (replicate 258 9)) (bytes (0 ∷ 257 ∷ replicate 256 9))
+    -- 8, then 14 for fewer than 256 places, also where few would do; nothing is written then. Not 14 first; not by the count
+    ∷ down (chainOf 3 0) (chained (record { number = 8; count = 0 }))
+    ∷ down (chainOf 0 255) (chained (record { number = 14; count = 0 }))
+    ∷ down (chainBuffer 0 (replicate 255 9)) (bytes (replicate 255 9))
+    ∷ down (chainBuffer 3 (replicate 256 9)) (bytes (replicate 256 9))
+    -- and the images come before both
+    ∷ asks steps (shop.marking (shop.idle ∷ [])) (chainOf 3 0) (chained (record { number = 1; count = 0 }))
+    ∷ []
+  where
+    waits : ℕ → ℕ → Relation
+    waits e f = shop.condition e f 0
+
+    -- nothing has happened
+    fresh : ℕ → List Relation → Question → Answer → Case
+    fresh n relations = asks (shop.table n 0 0 relations) (shop.marking (replicate n shop.idle))
+
+    -- event 0 waits for 1, and that for 2
+    steps : Table
+    steps = shop.table 3 0 0 (waits 0 1 ∷ waits 1 2 ∷ [])
+
+    ladder : Record → Record → Record → Question → Answer → Case
+    ladder first second third = asks steps (shop.marking (first ∷ second ∷ third ∷ []))
+
+    down : Question → Answer → Case
+    down = ladder shop.idle shop.idle shop.idle
+
+    -- the list of an event, in a list of 9s
+    listOf : ℕ → Question
+    listOf e = chainBuffer e (replicate 256 9)
+
+    lists : List Link → Answer
+    lists links = bytes (placesOf links ++ replicate (256 - length links) 9)
+
 unfoldable pub cases : List Case
-cases = worked ++ mistakes ++ turning ++ firm ++ returning
+cases = worked ++ mistakes ++ turning ++ firm ++ returning ++ chaining
 
 -- every case is answered as told
 pub told-right : map (λ c. answer (c .table) (c .marking) (c .asked)) cases ≡ map (λ c. c .told) cases
-unfolding cases worked mistakes turning firm returning answer causedIn every some lowest howMany repeated placesFrom belowFrom firstOf has setOf sizeOf lowestOf field bytesOf timeFits relationNumber tableNumber stateFits countFits recordFits markingNumber markingNumberFor judged relationAt relationImageNumber tableImageNumber tableIn readTable recordAt markingImageNumber readMarking headerImage classImage relationImage writeTableNumber writeTable recordImage carriedAt carried carryNumber carryMarking pieces stops blocks isEnabled withDeadline excludes includes given smallest executed withInclusion effectAt effect isDue anyDue dueSet later time plainTickNumber plainTick requestNumber reportNumber request restOf marginOf margin wouldBlock holdUpOf holdUp busy follows widened widenedFully closure closureAnswer unreportable uncausable waiting awaited onCycle reopening reviving verdict check holdsBack needed ready orderOf taken takenAll executedOf caused guarded guardedTick inTurn effects discharges shortest remedyNumber remedy stepNumber stepDone stepped endOf answersOf traceNumber stepsIn station writeNumber writeMarking fresh enabledAnswer dueAnswer report run runAnswers runBytes runBytesAnswers toldMargin toldHoldUp reasonOf placeOf toldCheck tableOf markingOf imagesNumber fieldsNumber fieldsTold relationFrom numbersNumber tableFrom buildNumber build relationToldNumber relationTold classToldNumber heardNumber heardBytes heardOutput
+unfolding cases worked mistakes turning firm returning chaining answer causedIn every some lowest howMany repeated placesFrom belowFrom firstOf has setOf sizeOf lowestOf field bytesOf timeFits relationNumber tableNumber stateFits countFits recordFits markingNumber markingNumberFor judged relationAt relationImageNumber tableImageNumber tableIn readTable recordAt markingImageNumber readMarking headerImage classImage relationImage writeTableNumber writeTable recordImage carriedAt carried carryNumber carryMarking pieces stops blocks isEnabled withDeadline excludes includes given smallest executed withInclusion effectAt effect isDue anyDue dueSet later time plainTickNumber plainTick requestNumber reportNumber request restOf marginOf margin wouldBlock holdUpOf holdUp withEvent along visit chain chainNumber chainAnswer chainList busy follows widened widenedFully closure closureAnswer unreportable uncausable waiting awaited onCycle reopening reviving verdict check holdsBack needed ready orderOf taken takenAll executedOf caused guarded guardedTick inTurn effects discharges shortest remedyNumber remedy stepNumber stepDone stepped endOf answersOf traceNumber stepsIn station writeNumber writeMarking fresh enabledAnswer dueAnswer report run runAnswers runBytes runBytesAnswers toldMargin toldHoldUp reasonOf placeOf toldCheck tableOf markingOf imagesNumber fieldsNumber fieldsTold relationFrom numbersNumber tableFrom buildNumber build relationToldNumber relationTold classToldNumber heardNumber heardBytes heardOutput
 told-right = refl

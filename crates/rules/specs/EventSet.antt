@@ -9,6 +9,10 @@ use Rattle.rules.specs.Counting.{lowest, howMany}
 unfoldable pub has : ℕ → ℕ → Bool
 has set n = eqb (set / 2 ^ n % 2) 1
 
+-- the set with an event, whether or not it was there
+unfoldable pub withEvent : ℕ → ℕ → ℕ
+withEvent set n = cond (has set n) set (set + 2 ^ n)
+
 -- the events below n at which f holds
 unfoldable pub setOf : ℕ → (ℕ → Bool) → ℕ
 setOf zero f = 0

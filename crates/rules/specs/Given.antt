@@ -17,6 +17,7 @@ use Rattle.rules.specs.Time.{dueAnswer, plainTick}
 use Rattle.rules.specs.Ask.{request, report}
 use Rattle.rules.specs.Margin.{margin}
 use Rattle.rules.specs.HoldUp.{holdUp}
+use Rattle.rules.specs.Chain.{chainAnswer}
 use Rattle.rules.specs.Closure.{closureAnswer}
 use Rattle.rules.specs.Check.{check}
 use Rattle.rules.specs.Guard.{guardedTick}
@@ -49,6 +50,7 @@ pub record EveryCall (P : ℕ → Type 0) : Type 0 where
   pub of-plain-tick : (t : Table) (m : Marking) → P (plainTick t m .number)
   pub of-margin : (t : Table) (m : Marking) (k : ℕ) → P (marginNumber (margin t m k))
   pub of-hold-up : (t : Table) (m : Marking) (e : ℕ) → P (holdUpNumber (holdUp t m e))
+  pub of-chain : (t : Table) (m : Marking) (e room : ℕ) → P (chainAnswer t m e room .number)
   pub of-closure : (t : Table) (m : Marking) → P (closureAnswer t m .number)
   pub of-check : (t : Table) (m : Marking) → P (checkNumber (check t m))
   pub of-guarded-tick : (t : Table) (m : Marking) → P (guardedTick t m .number)

@@ -17,6 +17,10 @@ pub mod Including
 pub mod Margin
 pub mod HoldUp
 pub mod Widened
+pub mod Links
+pub mod Visits
+pub mod Depths
+pub mod Chain
 pub mod Closure
 pub mod Check
 pub mod InNumbers

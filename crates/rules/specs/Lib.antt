@@ -15,6 +15,7 @@ pub mod Ask
 pub mod Including
 pub mod Margin
 pub mod HoldUp
+pub mod Chain
 pub mod Closure
 pub mod Check
 pub mod Guard

@@ -17,6 +17,7 @@ use Rattle.rules.specs.Time.{dueAnswer, plainTick}
 use Rattle.rules.specs.Ask.{request, report}
 use Rattle.rules.specs.Margin.{margin}
 use Rattle.rules.specs.HoldUp.{holdUp}
+use Rattle.rules.specs.Chain.{chainAnswer, chainList}
 use Rattle.rules.specs.Closure.{closureAnswer}
 use Rattle.rules.specs.Check.{check}
 use Rattle.rules.specs.Guard.{guardedTick}
@@ -74,6 +75,8 @@ pub record NoneLooks (t u : Table) (m n : Marking) : Type 0 where
   pub of-plain-tick : SameAnswer (plainTick t m) (plainTick u n)
   pub of-margin : (k : ℕ) → margin t m k ≡ margin u n k
   pub of-hold-up : (e : ℕ) → holdUp t m e ≡ holdUp u n e
+  pub of-chain : (e room : ℕ) → chainAnswer t m e room ≡ chainAnswer u n e room
+  pub of-chain-list : (e : ℕ) (list : List ℕ) → chainList t m e list ≡ chainList u n e list
   pub of-closure : closureAnswer t m ≡ closureAnswer u n
   pub of-check : check t m ≡ check u n
   pub of-guarded-tick : SameGuarded (guardedTick t m) (guardedTick u n)

@@ -101,6 +101,12 @@ pub enum HoldUpAnswer {
     Blocked(usize),
 }
 
+// How many relations stand in an event's way; the lent list names them.
+pub struct ChainAnswer {
+    pub number: u8,
+    pub count: usize,
+}
+
 // A rejection has the reason and the place: an event for reasons 1, 2 and 4, else a relation.
 pub enum CheckAnswer {
     Refused(u8),

@@ -11,11 +11,10 @@ use lib.Seq.{getD-set-same, getD-set-other}
 use borrow.Author.Tests.{eq-eqb, ne-eqb}
 use Rattle.rules.specs.declared.Relation.{Relation}
 use Rattle.rules.specs.declared.Table.{Table}
-use Rattle.rules.specs.EventSet.{has}
+use Rattle.rules.specs.EventSet.{has, withEvent}
 use Rattle.rules.specs.Holds.{relationOf, isResponse}
 use Rattle.rules.specs.Effect.{Deadline, none, eventually, within, smaller, isBounded, given, smallest, response}
 use Rattle.rules.specs.Laws.Tests.{clash, both, or-false}
-use Rattle.rules.specs.Shapes.Sets.{withEvent}
 use Rattle.rules.specs.Laws.EventSet.{has-with}
 use Rattle.rules.specs.Shapes.Good.{GoodTable}
 use Rattle.acts.specs.Derived.{sortOf, ofSort, lastOf, Own}

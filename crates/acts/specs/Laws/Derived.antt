@@ -15,8 +15,7 @@ use Rattle.rules.specs.declared.Relation.{Relation}
 use Rattle.rules.specs.declared.Table.{Table}
 use Rattle.rules.specs.Holds.{isCondition, isResponse, isInclusion, isMilestone, relationOf}
 use Rattle.rules.specs.Counting.{some}
-use Rattle.rules.specs.EventSet.{has}
-use Rattle.rules.specs.Shapes.Sets.{withEvent}
+use Rattle.rules.specs.EventSet.{has, withEvent}
 use Rattle.rules.specs.Shapes.Good.{GoodTable}
 use Rattle.rules.specs.Laws.Tests.{and-false, or-false}
 use Rattle.rules.specs.Laws.Counting.{some-none, some-more}

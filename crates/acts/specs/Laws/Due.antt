@@ -9,11 +9,10 @@ use lib.ListN.{getD}
 use borrow.Author.Tests.{ltb-true, lt-ltb, leb-true, leb-false, eq-eqb, ne-eqb}
 use Rattle.rules.specs.declared.Record.{Record}
 use Rattle.rules.specs.declared.Marking.{Marking}
-use Rattle.rules.specs.EventSet.{has}
+use Rattle.rules.specs.EventSet.{has, withEvent}
 use Rattle.rules.specs.Holds.{recordOf}
 use Rattle.rules.specs.Time.{isDue, dueSet, plainTickNumber}
 use Rattle.rules.specs.Laws.Tests.{both}
-use Rattle.rules.specs.Shapes.Sets.{withEvent}
 use Rattle.rules.specs.Laws.Time.{none-due-yet, some-due-still}
 use Rattle.acts.specs.Stands.{ticksAt, recordIn, Stands, mayBeDue}
 use Rattle.acts.specs.Laws.Stands.{stands-events, stands-at}

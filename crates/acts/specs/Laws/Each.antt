@@ -8,10 +8,9 @@ use lib.Dec.{eqb}
 use lib.Bits.{bitOr}
 use borrow.Author.Tests.{eq-eqb, ne-eqb}
 use Rattle.rules.specs.Counting.{some, lowest}
-use Rattle.rules.specs.EventSet.{has}
+use Rattle.rules.specs.EventSet.{has, withEvent}
 use Rattle.rules.specs.Laws.Tests.{clash, denied, both, either, join, or-left, or-right, and-false, or-false, same-test}
 use Rattle.rules.specs.Laws.Counting.{some-where, some-at, some-false, lowest-cases}
-use Rattle.rules.specs.Shapes.Sets.{withEvent}
 use Rattle.rules.specs.Laws.EventSet.{has-zero, has-minus-same, has-minus-other, has-with}
 use Rattle.rules.specs.Laws.Bitwise.{has-or}
 use Rattle.rules.specs.Laws.Turns.{same-word}

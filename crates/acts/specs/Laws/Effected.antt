@@ -13,12 +13,11 @@ use borrow.Author.Tests.{eq-eqb, ne-eqb, lt-ltb}
 use Rattle.rules.specs.declared.Table.{Table}
 use Rattle.rules.specs.declared.Record.{Record}
 use Rattle.rules.specs.declared.Marking.{Marking}
-use Rattle.rules.specs.EventSet.{has}
+use Rattle.rules.specs.EventSet.{has, withEvent}
 use Rattle.rules.specs.Holds.{limit, countLimit}
 use Rattle.rules.specs.Effect.{Deadline, none, eventually, within, isPending, isBounded, ticksOf, response, includes, excludes, executed, withDeadline}
 use Rattle.rules.specs.Effect.{withInclusion, responded, effectAt, effect}
 use Rattle.rules.specs.Laws.Tests.{and-false, or-false}
-use Rattle.rules.specs.Shapes.Sets.{withEvent}
 use Rattle.rules.specs.Laws.EventSet.{has-zero, has-with}
 use Rattle.rules.specs.Shapes.Good.{GoodTable}
 use Rattle.acts.specs.Derived.{firmSet, Own}

@@ -9,10 +9,9 @@ use native.Mathlib.Omega.{arith}
 use lib.Dec.{eqb}
 use borrow.Author.Tests.{eqb-true}
 use Rattle.rules.specs.declared.Table.{Table}
-use Rattle.rules.specs.EventSet.{has}
+use Rattle.rules.specs.EventSet.{has, withEvent}
 use Rattle.rules.specs.Check.{awaited}
 use Rattle.rules.specs.Laws.Tests.{decide, clash, denied, either, or-left}
-use Rattle.rules.specs.Shapes.Sets.{withEvent}
 use Rattle.rules.specs.Laws.EventSet.{has-zero, has-with}
 use Rattle.rules.specs.Shapes.Good.{GoodTable}
 use Rattle.duties.specs.Inhibition.{wordOf, Followed, Cleared}

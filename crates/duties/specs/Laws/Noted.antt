@@ -13,14 +13,13 @@ use borrow.Author.Tests.{eq-eqb, ne-eqb}
 use Rattle.rules.specs.declared.Relation.{Relation}
 use Rattle.rules.specs.declared.Table.{Table}
 use Rattle.rules.specs.Counting.{some}
-use Rattle.rules.specs.EventSet.{has}
+use Rattle.rules.specs.EventSet.{has, withEvent}
 use Rattle.rules.specs.Holds.{isResponse, relationOf}
 use Rattle.rules.specs.Effect.{leads}
 use Rattle.rules.specs.Closure.{followed}
 use Rattle.rules.specs.Laws.Tests.{decide, and-false}
 use Rattle.rules.specs.Laws.Counting.{some-none}
 use Rattle.rules.specs.Laws.EventSet.{has-zero}
-use Rattle.rules.specs.Shapes.Sets.{withEvent}
 use Rattle.acts.specs.Laws.Derived.{has-taken, has-passed}
 use Rattle.duties.specs.Inhibition.{wordOf, Followed, Answers, wordsNoted, answersNoted}
 

@@ -12,10 +12,9 @@ use lib.Seq.{getD-set-same, getD-set-other}
 use lib.Bits.{bitOr, bitAnd}
 use borrow.Author.Tests.{eqb-true, eq-eqb}
 use Rattle.rules.specs.Counting.{lowest}
-use Rattle.rules.specs.EventSet.{has, lowestOf}
+use Rattle.rules.specs.EventSet.{has, lowestOf, withEvent}
 use Rattle.rules.specs.Laws.Tests.{decide, clash, denied, affirmed, both, either, join, or-left, or-right, same-test}
 use Rattle.rules.specs.Laws.Counting.{lowest-same}
-use Rattle.rules.specs.Shapes.Sets.{withEvent}
 use Rattle.rules.specs.Laws.EventSet.{has-zero, has-minus-same, has-minus-other}
 use Rattle.rules.specs.Laws.Bitwise.{has-or, has-and}
 use Rattle.rules.specs.Laws.Turns.{same-word}

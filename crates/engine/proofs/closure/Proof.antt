@@ -9,10 +9,11 @@ use Rattle.rules.specs.EventSet.{sizeOf}
 use Rattle.rules.specs.Holds.{relationOf}
 use Rattle.rules.specs.Judge.{judged}
 use Rattle.rules.specs.Closure.{closure, closureAnswer}
+use Rattle.rules.specs.Laws.Judge.{judged-by}
 use Rattle.acts.specs.Laws.Derived.{left-small, right-small}
 use Rattle.duties.specs.Inhibition.{Followed, Answers}
 use Rattle.duties.specs.Laws.Noted.{followed-none, followed-more, answers-none, answers-more}
-use Rattle.engine.specs.Laws.Judging.{unused, judged-by, table-good, few-records, some-events, laid-out}
+use Rattle.engine.specs.Laws.Judging.{unused, table-good, few-records, some-events, laid-out}
 use Rattle.engine.proofs.closure.Statement.{statement}
 use Rattle.engine.proofs.closure.Tie as tie
 

@@ -6,7 +6,7 @@ use Rattle.rules.specs.Numbers.{_else_}
 use Rattle.rules.specs.Judge.{judged, eventNumber}
 use Rattle.rules.specs.Enabled.{enabledAnswer}
 use Rattle.rules.specs.Laws.Granted.{event-told}
-use Rattle.engine.specs.Laws.Judging.{judged-by, event-by}
+use Rattle.rules.specs.Laws.Judge.{judged-by, event-by}
 use Rattle.engine.proofs.enabled.Statement.{statement}
 use Rattle.engine.proofs.enabled.Tie as tie
 

@@ -6,7 +6,8 @@ use Rattle.rules.specs.Judge.{judged}
 use Rattle.rules.specs.declared.CheckAnswer.the-variants.{Accepts}
 use Rattle.rules.specs.Check.{verdict}
 use Rattle.rules.specs.Guard.{caused, guarded}
-use Rattle.engine.specs.Laws.Judging.{unused, judged-by, table-good, few-records, some-events, laid-out, given-back}
+use Rattle.rules.specs.Laws.Judge.{judged-by}
+use Rattle.engine.specs.Laws.Judging.{unused, table-good, few-records, some-events, laid-out, given-back}
 use Rattle.acts.specs.Laws.Asked.{head-firm}
 use Rattle.duties.specs.Laws.Taking.{answered-is}
 use Rattle.duties.specs.Laws.Checked.{tick-unjudged, tick-refused, tick-rejected, tick-accepted}

@@ -7,7 +7,7 @@ use Rattle.rules.specs.Judge.{judged, eventNumber}
 use Rattle.rules.specs.HoldUp.{holdUp}
 use Rattle.rules.specs.Laws.Granted.{event-told}
 use Rattle.rules.specs.Laws.InNumbers.{hold-up-whole}
-use Rattle.engine.specs.Laws.Judging.{judged-by, event-by}
+use Rattle.rules.specs.Laws.Judge.{judged-by, event-by}
 use Rattle.engine.proofs.hold_up.Statement.{statement}
 use Rattle.engine.proofs.hold_up.Tie as tie
 

@@ -10,10 +10,9 @@ use Rattle.rules.specs.Numbers.{_if_}
 use Rattle.rules.specs.Judge.{judged}
 use Rattle.rules.specs.Margin.{margin}
 use Rattle.rules.specs.Shapes.Good.{Good}
-use Rattle.rules.specs.Laws.Judge.{good}
+use Rattle.rules.specs.Laws.Judge.{good, judged-by}
 use Rattle.rules.specs.Laws.Granted.{right-told, margin-told, stands}
 use Rattle.rules.specs.Laws.InNumbers.{margin-whole}
-use Rattle.engine.specs.Laws.Judging.{judged-by}
 use Rattle.engine.proofs.margin.Statement.{statement}
 use Rattle.engine.proofs.margin.Tie as tie
 

@@ -4,8 +4,9 @@ use native.Mathlib.Omega.{arith}
 use borrow.Author.Needs.{needs}
 use Rattle.rules.specs.Judge.{judged}
 use Rattle.rules.specs.Time.{dueSet, time}
+use Rattle.rules.specs.Laws.Judge.{judged-by}
 use Rattle.acts.specs.Laws.Due.{tick-goes, tick-held}
-use Rattle.engine.specs.Laws.Judging.{unused, judged-by, table-good, few-records, some-events, laid-out, given-back, acted-done, acted-refused}
+use Rattle.engine.specs.Laws.Judging.{unused, table-good, few-records, some-events, laid-out, given-back, acted-done, acted-refused}
 use Rattle.engine.specs.Laws.Judging.{tick-judged, tick-unjudged}
 use Rattle.engine.proofs.plain_tick.Statement.{statement}
 use Rattle.engine.proofs.plain_tick.Tie as tie

@@ -11,8 +11,9 @@ use Rattle.rules.specs.Judge.{judged}
 use Rattle.rules.specs.Time.{dueSet}
 use Rattle.rules.specs.Remedy.{shortest}
 use Rattle.rules.specs.Laws.Remedy.{remedy-judged, remedy-first-long, remedy-second-long, remedy-first, remedy-second, remedy-none}
+use Rattle.rules.specs.Laws.Judge.{judged-by}
 use Rattle.engine.specs.Trial.{Tried}
-use Rattle.engine.specs.Laws.Judging.{unused, judged-by, table-good, few-records, some-events, laid-out}
+use Rattle.engine.specs.Laws.Judging.{unused, table-good, few-records, some-events, laid-out}
 use Rattle.engine.specs.Laws.Trial.{start-found, none-found}
 use Rattle.engine.proofs.remedies.Statement.{statement}
 use Rattle.engine.proofs.remedies.Tie as tie

@@ -1,18 +1,17 @@
 -- What a call knows once it has judged what it was handed, and has laid the marking out as words. Assumes nothing.
 use mathlib.Core.Path.{_≡_, _∙_, ap, sym, subst}
-use mathlib.Core.Bool.{Bool, not}
+use mathlib.Core.Bool.{Bool}
 use mathlib.Core.List.{List}
 use Prim.Native.Nat.{ℕ, _<_, _≤_}
 use native.Mathlib.Omega.{arith}
-use lib.Dec.{ltb}
 use lib.ListN.{drop}
 use borrow.Author.Tests.{ne-eqb}
 use Rattle.rules.specs.declared.Table.{Table}
 use Rattle.rules.specs.declared.Record.{Record}
 use Rattle.rules.specs.declared.Marking.{Marking}
 use Rattle.rules.specs.declared.MarkingAnswer.{MarkingAnswer}
-use Rattle.rules.specs.Numbers.{_if_, _else_, done}
-use Rattle.rules.specs.Judge.{tableNumber, markingNumberFor, judged, eventNumber}
+use Rattle.rules.specs.Numbers.{done}
+use Rattle.rules.specs.Judge.{judged}
 use Rattle.rules.specs.Effect.{effect}
 use Rattle.rules.specs.Time.{time, plainTick, plainTickNumber}
 use Rattle.rules.specs.Shapes.Asked.{askNumber, asked}
@@ -31,16 +30,6 @@ abbrev pub acted : ℕ → Marking → Marking → MarkingAnswer
 acted number after m = record { number = number; marking = done number after m }
 
 module _ (t : Table) (m : Marking) where
-  -- the table's number, else the marking's
-  pub judged-by : {first number : ℕ} → first ≡ tableNumber t → number ≡ (first else markingNumberFor (t .events) m) → number ≡ judged t m
-  unfolding judged
-  judged-by p q = q ∙ ap (λ (n : ℕ). n else markingNumberFor (t .events) m) p
-
-  -- else the event's
-  pub event-by : (event : ℕ) {first number : ℕ} → first ≡ judged t m → number ≡ (first else 8 if not (ltb event (t .events)))
-      → number ≡ (judged t m else eventNumber t event)
-  event-by event p q = q ∙ ap (λ (n : ℕ). n else eventNumber t event) p
-
   -- an ask of judged values, and one that the judge refuses
   pub ask-judged : (wanted : Bool) (e : ℕ) → judged t m ≡ 0 → acted (askNumber wanted t m e) (effect t m e) m ≡ asked wanted t m e
   unfolding asked

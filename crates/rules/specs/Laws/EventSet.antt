@@ -12,8 +12,7 @@ use lib.Dec.{eqb, leb, ltb, lit<}
 use lib.Arith.{digits-lt}
 use lib.Pow.{pow-pos, pow-add, split, shr-shr, shr-lt, mod-pow-add}
 use borrow.Author.Tests.{eq-eqb, eqb-true, eqb-false, leb-true, leb-false}
-use Rattle.rules.specs.EventSet.{has, setOf}
-use Rattle.rules.specs.Shapes.Sets.{withEvent}
+use Rattle.rules.specs.EventSet.{has, setOf, withEvent}
 use Rattle.rules.specs.Laws.Tests.{decide, clash, denied, last-or-below}
 
 -- the digit behind `has`

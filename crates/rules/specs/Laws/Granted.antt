@@ -28,12 +28,14 @@ pub event-fits : {t : Table} {m : Marking} {e : ℕ} → Good t m → e < t .eve
 event-fits g b = omega (arith, g .table-good .few-events)
 
 -- the event asked about exists
+pub event-exists : (t : Table) (e : ℕ) → eventNumber t e ≡ 0 → e < t .events
+event-exists t e h = ltb-true e (t .events) (not-false (ltb e (t .events)) (if-done 7 (not (ltb e (t .events))) h))
+
 pub event-told : (t : Table) (m : Marking) (e : ℕ) → (judged t m else eventNumber t e) ≡ 0 → Good t m × (e < 64)
 event-told t m e h =
     let p = both-done (judged t m) (eventNumber t e) h in
     let g = good t m (p .0) in
-    let exists = ltb-true e (t .events) (not-false (ltb e (t .events)) (if-done 7 (not (ltb e (t .events))) (p .1))) in
-    (g, event-fits g exists)
+    (g, event-fits g (event-exists t e (p .1)))
 
 -- an age, and a time, are at most the limit
 pub age-fits : (r : Record) → recordFits r ≡ true → r .age ≤ limit

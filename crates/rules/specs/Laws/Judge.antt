@@ -7,10 +7,10 @@ use borrow.Author.Tests.{leb-true, ltb-true, eqb-true, eq-eqb, le-leb}
 use Rattle.rules.specs.declared.Relation.{Relation}
 use Rattle.rules.specs.declared.Table.{Table}
 use Rattle.rules.specs.declared.Marking.{Marking}
-use Rattle.rules.specs.Numbers.{_if_}
+use Rattle.rules.specs.Numbers.{_if_, _else_}
 use Rattle.rules.specs.Holds.{mostEvents, mostRelations, relationOf, recordOf}
 use Rattle.rules.specs.Judge.{eventsFit, relationsFit, timeFits, relationNumber, tableNumber, recordFits, recordNumber, markingNumber, markingNumberFor}
-use Rattle.rules.specs.Judge.{judged}
+use Rattle.rules.specs.Judge.{judged, eventNumber}
 use Rattle.rules.specs.Shapes.Good.{GoodRelation, GoodTable, GoodMarking, Good}
 use Rattle.rules.specs.Laws.Tests.{both, join, not-false}
 use Rattle.rules.specs.Laws.Numbers.{if-done, if-kept, both-done, first-each, first-done}
@@ -79,3 +79,15 @@ judged-again t m n h same fits =
     rw (p .0, few, same ∙ events, eq-eqb (t .events) (t .events) refl, few)
     (first-done (λ e. recordNumber (recordOf n e)) (t .events)
     (λ x b. if-kept 7 (ap not (fits x (rw events b) (g .marking-good .records-fit x b)))))
+
+-- numbers that are asked for one after the other
+module _ (t : Table) (m : Marking) where
+  -- the table's number, else the marking's
+  pub judged-by : {first number : ℕ} → first ≡ tableNumber t → number ≡ (first else markingNumberFor (t .events) m) → number ≡ judged t m
+  unfolding judged
+  judged-by p q = q ∙ ap (λ (n : ℕ). n else markingNumberFor (t .events) m) p
+
+  -- else the event's
+  pub event-by : (event : ℕ) {first number : ℕ} → first ≡ judged t m → number ≡ (first else 8 if not (ltb event (t .events)))
+      → number ≡ (judged t m else eventNumber t event)
+  event-by event p q = q ∙ ap (λ (n : ℕ). n else eventNumber t event) p

@@ -28,6 +28,7 @@ use Rattle.rules.specs.Time.{dueAnswer, plainTickNumber, plainTick}
 use Rattle.rules.specs.Ask.{requestNumber, reportNumber, request, report}
 use Rattle.rules.specs.Margin.{outright, marginOf, margin}
 use Rattle.rules.specs.HoldUp.{holdUpOf, holdUp}
+use Rattle.rules.specs.Chain.{chainNumber, chainAnswer}
 use Rattle.rules.specs.Closure.{closureAnswer}
 use Rattle.rules.specs.Check.{verdict, check}
 use Rattle.rules.specs.Guard.{guardedTick}
@@ -225,7 +226,7 @@ module _ (P : ℕ → Type 0) (each : (number : ℕ) → given number ≡ true �
         go false (suc i) b = each 0 refl
 
   pub every-call : EveryCall P
-  unfolding readTable readMarking writeTableNumber writeNumber carryNumber fresh enabledAnswer dueAnswer request report plainTick closureAnswer guardedTick remedy run runAnswers runBytes runBytesAnswers heardNumber
+  unfolding readTable readMarking writeTableNumber writeNumber carryNumber fresh enabledAnswer dueAnswer request report plainTick chainNumber chainAnswer closureAnswer guardedTick remedy run runAnswers runBytes runBytesAnswers heardNumber
   every-call = record {
     of-read-table = table-image-given;
     of-read-marking = marking-image-given;
@@ -242,6 +243,7 @@ module _ (P : ℕ → Type 0) (each : (number : ℕ) → given number ≡ true �
     of-plain-tick = λ t m. search (else-given, judged-given, plain-tick-given);
     of-margin = margin-given;
     of-hold-up = hold-up-given;
+    of-chain = λ t m e room. search (if-given, else-given, judged-given) depth 8;
     of-closure = judged-given;
     of-check = check-given;
     of-guarded-tick = check-given;

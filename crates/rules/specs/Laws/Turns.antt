@@ -7,8 +7,7 @@ use native.Mathlib.Omega.{arith}
 use lib.Dec.{lit<}
 use lib.Pow.{pow-lt, split}
 use lib.Bits.{bitOr, or-lt}
-use Rattle.rules.specs.EventSet.{has}
-use Rattle.rules.specs.Shapes.Sets.{withEvent}
+use Rattle.rules.specs.EventSet.{has, withEvent}
 use Rattle.rules.specs.Laws.EventSet.{has-digit, has-with, with-fits, has-zero, same-members}
 use Rattle.rules.specs.Laws.Bitwise.{has-or, has-one}
 

@@ -25,6 +25,7 @@ use Rattle.rules.specs.Time.{dueAnswer, plainTick}
 use Rattle.rules.specs.Ask.{request, report}
 use Rattle.rules.specs.Margin.{margin}
 use Rattle.rules.specs.HoldUp.{holdUp}
+use Rattle.rules.specs.Chain.{chain, chainNumber, chainAnswer, chainList}
 use Rattle.rules.specs.Closure.{closureAnswer}
 use Rattle.rules.specs.Check.{check}
 use Rattle.rules.specs.Guard.{caused, guardedTick}
@@ -34,9 +35,10 @@ use Rattle.rules.specs.Unused.{SameTable, SameMarking, SameAnswer, SameG
 use Rattle.rules.specs.Laws.Tests.{not-false}
 use Rattle.rules.specs.Laws.Numbers.{if-done, both-done, by-number, done-alike}
 use Rattle.rules.specs.Laws.Judge.{good}
+use Rattle.rules.specs.Laws.Granted.{event-exists}
 use Rattle.rules.specs.Laws.UnusedRules.{table-judged, marking-judged, marking-judged-for, both-judged, effect-agrees, time-agrees, due-set-alike}
-use Rattle.rules.specs.Laws.UnusedRules.{Agree, right-alike, enabled-alike, hold-up-alike, closure-alike, verdict-alike}
-use Rattle.rules.specs.Laws.UnusedTurns.{else-alike, event-exists, request-alike, report-alike, plain-tick-alike}
+use Rattle.rules.specs.Laws.UnusedRules.{Agree, right-alike, enabled-alike, hold-up-alike, chain-alike, closure-alike, verdict-alike}
+use Rattle.rules.specs.Laws.UnusedTurns.{else-alike, request-alike, report-alike, plain-tick-alike}
 use Rattle.rules.specs.Laws.UnusedTurns.{caused-alike, after-guarded, shortest-alike, remedy-number-alike, after-trace, answers-alike}
 
 -- An unused place may hold anything: with any other relation past the count, any other record past the event count, a table and a marking agree
@@ -183,6 +185,28 @@ module _ {t u : Table} {m n : Marking} (tables : SameTable t u) (markings : Same
       (λ z. rw (← event-number e, hold-up-alike (agree-else _ z) e (event-in-use e z)))
       (λ r. rw (← event-number e, r))
 
+  chain-number-same : (e room : ℕ) → chainNumber t m e room ≡ chainNumber u n e room
+  unfolding chainNumber
+  chain-number-same e room = number-alike _ _ (λ a. rw (tables .same-events))
+
+  -- a granted chain
+  chain-granted : (e room : ℕ) → chainNumber t m e room ≡ 0 → chain t m e ≡ chain u n e
+  unfolding chainNumber
+  chain-granted e room z =
+      let p = both-done (judged t m) _ z in
+      chain-alike (agree (p .0)) e (event-exists t e (both-done (eventNumber t e) _ (p .1) .0))
+
+  chain-same : (e room : ℕ) → chainAnswer t m e room ≡ chainAnswer u n e room
+  unfolding chainAnswer
+  chain-same e room =
+      by-number (chainNumber t m e room) (λ z. rw (← chain-number-same e room, chain-granted e room z)) (λ r. rw (← chain-number-same e room, r))
+
+  chain-list-same : (e : ℕ) (list : List ℕ) → chainList t m e list ≡ chainList u n e list
+  unfolding chainList
+  chain-list-same e list =
+      by-number (chainNumber t m e (length list)) (λ z. rw (← chain-number-same e (length list), chain-granted e (length list) z))
+      (λ r. rw (← chain-number-same e (length list), r))
+
   closure-same : closureAnswer t m ≡ closureAnswer u n
   unfolding closureAnswer
   closure-same =
@@ -259,6 +283,8 @@ none-looks tables markings = record {
   of-plain-tick = plain-tick-same tables markings;
   of-margin = margin-same tables markings;
   of-hold-up = hold-up-same tables markings;
+  of-chain = chain-same tables markings;
+  of-chain-list = chain-list-same tables markings;
   of-closure = closure-same tables markings;
   of-check = check-same tables markings;
   of-guarded-tick = guarded-tick-same tables markings;

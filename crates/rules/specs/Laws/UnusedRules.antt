@@ -1,7 +1,7 @@
 -- The rules on tables and markings that agree on the places in use: each says the same of both. An effect and a tick lead from markings that
 -- agree to markings that agree. Where a rule reads the record of an event that a relation names, the table is judged 'done'. Assumes nothing.
 use mathlib.Core.Path.{_≡_, refl, _∙_, ap, sym}
-use mathlib.Core.Bool.{Bool, true, false, not, _&&_, _||_}
+use mathlib.Core.Bool.{Bool, true, false, not, _&&_, _||_, cond}
 use Prim.Native.Nat.{ℕ, zero, suc, _<_, _≤_}
 use native.Mathlib.Omega.{arith}
 use lib.Dec.{ltb}
@@ -14,19 +14,21 @@ use Rattle.rules.specs.declared.Marking.{Marking}
 use Rattle.rules.specs.declared.CheckAnswer.{CheckAnswer}
 use Rattle.rules.specs.Counting.{some, lowest, repeated, eachBelow}
 use Rattle.rules.specs.Numbers.{firstOf}
-use Rattle.rules.specs.EventSet.{has, setOf}
-use Rattle.rules.specs.Holds.{emptyRecord, isResponse, isControllable, relationOf, recordOf, withRecords}
+use Rattle.rules.specs.EventSet.{has, setOf, withEvent}
+use Rattle.rules.specs.Holds.{mostEvents, emptyRecord, isResponse, isControllable, relationOf, recordOf, withRecords}
 use Rattle.rules.specs.Judge.{relationNumber, tableNumber, recordNumber, markingNumber, markingNumberFor, judged}
 use Rattle.rules.specs.Effect.{excludes, includes, smallest, response, withInclusion, effectAt, effect}
 use Rattle.rules.specs.Time.{anyDue, dueSet, later, time}
 use Rattle.rules.specs.Enabled.{blocks, isEnabled}
 use Rattle.rules.specs.HoldUp.{wouldBlock, holdUpOf}
+use Rattle.rules.specs.Chain.{Visit, nothing, ledTo, along, visit, chain}
 use Rattle.rules.specs.Closure.{busy, followed, follows, widened, widenedFully, closure}
 use Rattle.rules.specs.Check.{unreportable, uncausable, waiting, awaited, onCycle, reopening, reviving, reason, verdict}
 use Rattle.rules.specs.Unused.{SameTable, SameMarking}
 use Rattle.rules.specs.Laws.Counting.{some-same, lowest-same, length-each-below, each-below-changed}
 use Rattle.rules.specs.Laws.Numbers.{first-same}
 use Rattle.rules.specs.Laws.EventSet.{set-same-test}
+use Rattle.rules.specs.Laws.Links.{along-same}
 use Rattle.rules.specs.Shapes.Good.{GoodTable}
 
 -- Counting up to counts that are the same, by tests that say the same below them
@@ -42,6 +44,9 @@ module _ {a b : ℕ} (counts : a ≡ b) where
 
   set-agree : (f g : ℕ → Bool) → ((i : ℕ) → i < a → f i ≡ g i) → setOf a f ≡ setOf b g
   set-agree f g h = set-same-test f g a h ∙ ap (λ (n : ℕ). setOf n g) counts
+
+  along-agree : (f g : ℕ → ℕ → Visit) (o : ℕ) → ((k p : ℕ) → k < a → f k p ≡ g k p) → along a f o ≡ along b g o
+  along-agree f g o h = along-same f g a o h ∙ ap (λ (n : ℕ). along n g o) counts
 
 -- Judging
 module _ {t u : Table} (same : SameTable t u) where
@@ -221,6 +226,31 @@ module _ {t u : Table} {m n : Marking} (a : Agree t u m n) where
         lowest-agree (a .tables .same-count) (wouldBlock t m e) (wouldBlock u n e) (would-block-alike e),
         a .tables .same-count,
       )
+
+  -- The chain: a visit of an event that exists
+  visit-alike : (f d e o : ℕ) → e < t .events → visit t m f d e o ≡ visit u n f d e o
+  unfolding visit
+  visit-alike zero d e o b = refl
+  visit-alike (suc f) d e o b =
+      rw (event-alike e b)
+      (ap (cond (has o e || not (recordOf n e .included)) (nothing o))
+      (along-agree (a .tables .same-count) _ _ (withEvent o e)
+      (λ k p c. step k p c (visit-alike f (suc d) (relationOf t k .right) p (right-exists k c)))))
+    where
+      right-exists : (k : ℕ) → k < t .count → relationOf t k .right < t .events
+      right-exists k c = a .table-good .relations-good k c .right-exists
+
+      step : (k p : ℕ) → k < t .count → visit t m f (suc d) (relationOf t k .right) p ≡ visit u n f (suc d) (relationOf t k .right) p
+          → cond (blocks t m e k) (ledTo k d (visit t m f (suc d) (relationOf t k .right) p)) (nothing p)
+          ≡ cond (blocks u n e k) (ledTo k d (visit u n f (suc d) (relationOf u k .right) p)) (nothing p)
+      step k p c below =
+          rw (blocks-alike e k c)
+          (ap (λ (v : Visit). cond (blocks u n e k) (ledTo k d v) (nothing p))
+          (below ∙ ap (λ (r : Relation). visit u n f (suc d) (r .right) p) (relation-alike k c)))
+
+  pub chain-alike : (e : ℕ) → e < t .events → chain t m e ≡ chain u n e
+  unfolding chain
+  chain-alike e b = ap (λ (v : Visit). v .links) (visit-alike mostEvents 0 e 0 b)
 
   -- Closure
   busy-alike : (x : ℕ) → x < t .events → busy t m x ≡ busy u n x

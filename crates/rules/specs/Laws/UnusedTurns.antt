@@ -24,9 +24,8 @@ use Rattle.rules.specs.Guard.{holdsBack, needed, ready, orderOf, order, 
 use Rattle.rules.specs.Remedy.{inTurn, effects, discharges, shortest, remedyNumber}
 use Rattle.rules.specs.Trace.{reportKind, plainTickKind, stepNumber, stepDone, stepped, endOf, answersOf}
 use Rattle.rules.specs.Unused.{SameTable}
-use Rattle.rules.specs.Laws.Tests.{not-false}
 use Rattle.rules.specs.Laws.Counting.{lowest-same}
-use Rattle.rules.specs.Laws.Numbers.{if-done}
+use Rattle.rules.specs.Laws.Granted.{event-exists}
 use Rattle.rules.specs.Shapes.Tried.{mayCause}
 use Rattle.rules.specs.Laws.UnusedRules.{some-agree, lowest-agree, follows-alike, fully-alike, any-due-alike, due-set-alike}
 use Rattle.rules.specs.Laws.UnusedRules.{Agree, after-effect, after-time, event-alike, right-alike, enabled-alike, verdict-alike}
@@ -35,9 +34,6 @@ use Rattle.rules.specs.Laws.UnusedRules.{Agree, after-effect, after-time
 pub else-alike : (i j a b : ℕ) → i ≡ j → (i ≡ 0 → a ≡ b) → (i else a) ≡ (j else b)
 else-alike zero j a b p q = rw (← p, q refl)
 else-alike (suc i) j a b p q = rw (← p)
-
-pub event-exists : (t : Table) (e : ℕ) → eventNumber t e ≡ 0 → e < t .events
-event-exists t e h = ltb-true e (t .events) (not-false (ltb e (t .events)) (if-done 7 (not (ltb e (t .events))) h))
 
 -- The order of taking: each of its events exists
 data Below (n : ℕ) : List ℕ → Type 0 where

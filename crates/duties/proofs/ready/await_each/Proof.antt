@@ -3,9 +3,8 @@ use mathlib.Core.Path.{_≡_, refl, _∙_, sym}
 use Prim.Native.Nat.{ℕ, _<_, _^_}
 use native.Mathlib.Omega.{arith}
 use lib.ListN.{length, getD, length-set}
-use Rattle.rules.specs.EventSet.{has}
+use Rattle.rules.specs.EventSet.{has, withEvent}
 use Rattle.rules.specs.Laws.Counting.{Found}
-use Rattle.rules.specs.Shapes.Sets.{withEvent}
 use Rattle.rules.specs.Laws.Time.{one-shifted}
 use Rattle.acts.specs.Laws.Members.{lowest-found, lowest-worth, lowest-less}
 use Rattle.duties.specs.Laws.Ready.{changed, changed-more, changed-end}

@@ -3,7 +3,7 @@ use mathlib.Core.Path.{_≡_, sym, _∙_}
 use borrow.Author.Tests.{eq-eqb, ne-eqb}
 use Rattle.rules.specs.Judge.{judged}
 use Rattle.rules.specs.Laws.Numbers.{else-refused}
-use Rattle.engine.specs.Laws.Judging.{judged-by}
+use Rattle.rules.specs.Laws.Judge.{judged-by}
 use Rattle.engine.specs.Laws.Heard.{parity}
 use borrow.Author.Needs.{needs}
 use Rattle.engine.proofs.heard.long_number.Statement.{statement}

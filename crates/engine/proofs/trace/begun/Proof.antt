@@ -5,8 +5,8 @@ use Rattle.rules.specs.Numbers.{_else_}
 use Rattle.rules.specs.Judge.{judged}
 use Rattle.rules.specs.Trace.{traceNumber}
 use Rattle.rules.specs.Laws.Numbers.{else-refused}
+use Rattle.rules.specs.Laws.Judge.{judged-by}
 use Rattle.engine.specs.Running.{begunRun}
-use Rattle.engine.specs.Laws.Judging.{judged-by}
 use borrow.Author.Needs.{needs}
 use Rattle.engine.proofs.trace.begun.Statement.{statement}
 use Rattle.engine.proofs.trace.begun.Tie as tie

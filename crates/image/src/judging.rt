@@ -12,7 +12,7 @@ pub fn then_marking(number: u8, events: usize, m: Marking) -> u8
     ensures { λ r. ⌜ r ≡ (number else markingNumberFor events m) ⌝ }
 {
     if number == 0 {
-        return image::judge_marking(events, m);
+        return crate::judge_marking(events, m);
     }
     number
 }

@@ -2,8 +2,8 @@
 use mathlib.Core.Path.{refl}
 use borrow.Author.Tests.{lt-ltb, le-ltb}
 use Rattle.rules.specs.Laws.Granted.{stands}
-use Rattle.engine.proofs.judge.then_event.Statement.{statement}
-use Rattle.engine.proofs.judge.then_event.Tie as tie
+use Rattle.image.proofs.judging.then_event.Statement.{statement}
+use Rattle.image.proofs.judging.then_event.Tie as tie
 
 returns : tie.Need-returns
 returns c = rw (c .before .if1 .taken, lt-ltb _ _ (c .if2 .taken))

@@ -2,8 +2,8 @@
 use mathlib.Core.Path.{refl}
 use borrow.Author.Needs.{needs}
 use Rattle.rules.specs.Laws.Granted.{stands}
-use Rattle.engine.proofs.judge.then_marking.Statement.{statement}
-use Rattle.engine.proofs.judge.then_marking.Tie as tie
+use Rattle.image.proofs.judging.then_marking.Statement.{statement}
+use Rattle.image.proofs.judging.then_marking.Tie as tie
 
 judge-marking-requires : tie.Need-judge-marking-requires
 judge-marking-requires c κs = search needs
