@@ -3,7 +3,7 @@
 //! case when their answers are equal.
 
 use crate::{
-    build_table, carry_marking, check, closure, due, enabled, fresh, guarded_tick, hold_up,
+    build_table, carry_marking, chain, check, closure, due, enabled, fresh, guarded_tick, hold_up,
     judge_marking, judge_table, lowest, margin, plain_tick, read_marking, read_table, remedies,
     report, request, run, run_bytes, size, station, tell_class, tell_relation, write_marking,
     write_table, CheckAnswer, ClosureAnswer, EnabledAnswer, GuardedAnswer, HoldUpAnswer,
@@ -72,6 +72,11 @@ pub enum Case {
     HoldUp {
         pair: Pair,
         event: usize,
+    },
+    Chain {
+        pair: Pair,
+        event: usize,
+        list: Vec<u16>,
     },
     Closure {
         pair: Pair,
@@ -144,6 +149,11 @@ pub enum Answer {
     Marking(Box<MarkingAnswer>),
     Margin(MarginAnswer),
     HoldUp(HoldUpAnswer),
+    Chain {
+        number: u8,
+        count: usize,
+        list: Vec<u16>,
+    },
     Closure(ClosureAnswer),
     Check(CheckAnswer),
     Guarded(Box<GuardedAnswer>),
@@ -170,6 +180,7 @@ impl Answer {
             Answer::ReadTable(answer) => answer.number,
             Answer::ReadMarking(answer) => answer.number,
             Answer::Written { number, .. }
+            | Answer::Chain { number, .. }
             | Answer::ToldRelation { number, .. }
             | Answer::ToldClass { number, .. } => *number,
             Answer::Number(number) => *number,
@@ -214,6 +225,7 @@ impl Case {
             Case::PlainTick { .. } => "plain_tick",
             Case::Margin { .. } => "margin",
             Case::HoldUp { .. } => "hold_up",
+            Case::Chain { .. } => "chain",
             Case::Closure { .. } => "closure",
             Case::Check { .. } => "check",
             Case::GuardedTick { .. } => "guarded_tick",
@@ -239,6 +251,7 @@ impl Case {
             | Case::PlainTick { pair }
             | Case::Margin { pair, .. }
             | Case::HoldUp { pair, .. }
+            | Case::Chain { pair, .. }
             | Case::Closure { pair }
             | Case::Check { pair }
             | Case::GuardedTick { pair }
@@ -299,6 +312,15 @@ impl Case {
             }
             Case::HoldUp { pair, event } => {
                 Answer::HoldUp(hold_up(&pair.table, &pair.marking, *event))
+            }
+            Case::Chain { pair, event, list } => {
+                let mut list = list.clone();
+                let told = chain(&pair.table, &pair.marking, *event, &mut list);
+                Answer::Chain {
+                    number: told.number,
+                    count: told.count,
+                    list,
+                }
             }
             Case::Closure { pair } => Answer::Closure(closure(&pair.table, &pair.marking)),
             Case::Check { pair } => Answer::Check(check(&pair.table, &pair.marking)),

@@ -3,12 +3,14 @@
 
 mod away;
 mod carrying;
+mod chain;
 mod damage;
 mod plain_numbers;
 mod shape;
 
 pub use crate::writing::{marking_image, table_image};
 pub use carrying::{carry_marking_case, old_marking_image};
+pub use chain::chain_case;
 pub use plain_numbers::{build_table_case, tell_class_case, tell_relation_case};
 pub use shape::relation;
 
@@ -24,6 +26,7 @@ use crate::trace::{Step, LONGEST_TRACE};
 type Question = fn(&mut Rng) -> Case;
 
 /// The calls with the most behaviour are listed twice, to be asked more often.
+/// Chains are not listed: another length would change what every seed gives.
 const QUESTIONS: [Question; 37] = [
     read_table_case,
     read_marking_case,
@@ -64,9 +67,20 @@ const QUESTIONS: [Question; 37] = [
     carry_marking_case,
 ];
 
-/// A case of any call.
+/// Of so many in a hundred cases of any call a chain is asked.
+const CHAIN_PERCENT: usize = 6;
+
+/// A case of any call. A chain is drawn aside and stands in the place of another
+/// case, which is drawn all the same: what a seed gives in the other places, and
+/// for the other calls, does not depend on there being chains.
 pub fn case(rng: &mut Rng) -> Case {
-    rng.one_of(QUESTIONS)(rng)
+    let mut aside = rng.aside();
+    let other = rng.one_of(QUESTIONS)(rng);
+    if aside.chance(CHAIN_PERCENT) {
+        chain_case(&mut aside)
+    } else {
+        other
+    }
 }
 
 /// A table and marking that the judge accepts.
@@ -95,15 +109,19 @@ fn pair_to_check(rng: &mut Rng) -> Pair {
 fn pair_damaged_in(rng: &mut Rng, percent: usize) -> Pair {
     let mut pair = sound_pair(rng);
     if rng.chance(percent) {
-        let which = rng.below(4);
-        if which != 0 {
-            damage::damage_table(rng, &mut pair.table);
-        }
-        if which != 1 && which != 2 {
-            damage::damage_marking(rng, &mut pair.marking);
-        }
+        damage_pair(rng, &mut pair);
     }
     pair
+}
+
+fn damage_pair(rng: &mut Rng, pair: &mut Pair) {
+    let which = rng.below(4);
+    if which != 0 {
+        damage::damage_table(rng, &mut pair.table);
+    }
+    if which != 1 && which != 2 {
+        damage::damage_marking(rng, &mut pair.marking);
+    }
 }
 
 /// A table image, damaged in so many of a hundred cases.

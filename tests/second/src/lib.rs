@@ -6,6 +6,7 @@
 mod ask;
 mod bits;
 mod carrying;
+mod chain;
 mod check;
 mod closure;
 mod decoded;
@@ -34,6 +35,7 @@ pub mod rng;
 
 pub use ask::{report, request};
 pub use carrying::{carry_marking, OLD_RECORD_BYTES};
+pub use chain::{chain, ChainAnswer};
 pub use check::{check, CheckAnswer};
 pub use closure::{closure, ClosureAnswer};
 pub use decoded::{

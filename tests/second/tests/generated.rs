@@ -1,6 +1,7 @@
 //! Many random cases: everything occurs, and what the rules' paper promises holds.
 
 mod carriers;
+mod chain;
 mod counted;
 mod firm;
 mod promises;
@@ -26,7 +27,7 @@ fn for_each_case(mut look_at: impl FnMut(&Case, &Answer)) {
 
 /// Every number that a call can give. Decoded values have no spare bits, so 2
 /// is for those that read table images, or class bytes and firm as numbers.
-const NUMBERS: [(&str, &[u8]); 27] = [
+const NUMBERS: [(&str, &[u8]); 28] = [
     ("read_table", &[0, 1, 2, 3, 4, 5, 6]),
     ("read_marking", &[0, 1, 3, 7]),
     ("write_marking", &[0, 3, 7, 14]),
@@ -42,6 +43,7 @@ const NUMBERS: [(&str, &[u8]); 27] = [
     ("plain_tick", &[0, 1, 3, 4, 5, 6, 7, 11]),
     ("margin", &[0, 1, 3, 4, 5, 6, 7, 8]),
     ("hold_up", &[0, 1, 3, 4, 5, 6, 7, 8]),
+    ("chain", &[0, 1, 3, 4, 5, 6, 7, 8, 14]),
     ("closure", &[0, 1, 3, 4, 5, 6, 7]),
     ("check", &[0, 1, 3, 4, 5, 6, 7, 12]),
     ("guarded_tick", &[0, 1, 3, 4, 5, 6, 7, 12]),
@@ -526,6 +528,7 @@ fn tampered(answer: &Answer) -> Option<Answer> {
                 _ => HoldUpAnswer::Enabled,
             }
         }
+        Answer::Chain { list, .. } => *list.last_mut()? ^= 1,
         Answer::Closure(closure) => closure.set ^= 1,
         Answer::Check(check) => check.place += 1,
         Answer::Guarded(guarded) => guarded.place += 1,

@@ -95,7 +95,7 @@ pub fn for_margin(rng: &mut Rng, pair: &mut Pair, asked: usize) {
 }
 
 /// At any place of the table, if there is room.
-fn insert(rng: &mut Rng, table: &mut Table, relation: Relation) {
+pub(super) fn insert(rng: &mut Rng, table: &mut Table, relation: Relation) {
     if table.count < MOST_RELATIONS {
         let place = rng.between(0, table.count);
         table.relations[place..=table.count].rotate_right(1);

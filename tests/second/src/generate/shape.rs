@@ -8,9 +8,9 @@ use crate::rng::Rng;
 use crate::{closure, plain_tick, report, request};
 
 pub(super) const CONDITION: u8 = 1;
-const RESPONSE: u8 = 2;
-const INCLUDES: u8 = 3;
-const EXCLUDES: u8 = 4;
+pub(super) const RESPONSE: u8 = 2;
+pub(super) const INCLUDES: u8 = 3;
+pub(super) const EXCLUDES: u8 = 4;
 pub(super) const MILESTONE: u8 = 5;
 
 /// What keeps a shaped table acceptable to the check: the closure stays within
@@ -188,7 +188,7 @@ fn some_count(rng: &mut Rng) -> u32 {
     }
 }
 
-fn some_record(rng: &mut Rng) -> Record {
+pub(super) fn some_record(rng: &mut Rng) -> Record {
     let mut record = Record::EMPTY;
     record.included = rng.chance(75);
     if rng.chance(45) {
@@ -206,14 +206,14 @@ fn some_record(rng: &mut Rng) -> Record {
     record
 }
 
-fn push(table: &mut Table, relation: Relation) {
+pub(super) fn push(table: &mut Table, relation: Relation) {
     if table.count < MOST_RELATIONS {
         table.relations[table.count] = relation;
         table.count += 1;
     }
 }
 
-fn word_of(flags: &[bool]) -> u64 {
+pub(super) fn word_of(flags: &[bool]) -> u64 {
     flags
         .iter()
         .rev()

@@ -1,6 +1,7 @@
 //! Document 01 line by line, and of document 02 what has landed.
 
 mod carrying;
+mod chain;
 mod closures;
 mod counts;
 mod examples;

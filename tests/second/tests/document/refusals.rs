@@ -28,6 +28,11 @@ fn every_call_refuses(table: &Table, now: &Marking, number: u8) {
     assert_eq!(plain_tick(table, now), handed_back);
     assert_eq!(margin(table, now, 0), MarginAnswer::Refused(number));
     assert_eq!(hold_up(table, now, 0), HoldUpAnswer::Refused(number));
+    let mut list = [77; 256];
+    let nothing = ChainAnswer { number, count: 0 };
+    assert_eq!(chain(table, now, 0, &mut list), nothing);
+    assert_eq!(chain(table, now, usize::MAX, &mut list[..255]), nothing);
+    assert_eq!(list, [77; 256]);
     assert_eq!(
         closure(table, now),
         ClosureAnswer {
@@ -319,6 +324,7 @@ fn number_8_an_event_or_relation_does_not_exist() {
         assert_eq!(report(&table, &now, missing), handed_back);
         assert_eq!(hold_up(&table, &now, missing), HoldUpAnswer::Refused(8));
         assert_eq!(margin(&table, &now, missing), MarginAnswer::Refused(8));
+        assert_eq!(chain(&table, &now, missing, &mut [0; 256]).number, 8);
     }
     assert_eq!(margin(&table, &now, 0), MarginAnswer::NotACondition);
 }
@@ -451,6 +457,12 @@ fn number_14_too_long_or_too_short() {
     assert_eq!(remedies(&table, &now, &[0; 255], &[0; 255]).number, 0);
     assert_eq!(remedies(&table, &now, &[0; 256], &[]).number, 14);
     assert_eq!(remedies(&table, &now, &[], &[0; 256]).number, 14);
+
+    let mut list = [5; 256];
+    assert_eq!(chain(&table, &now, 0, &mut list).number, 0);
+    let refused = chain(&table, &now, 0, &mut list[..255]);
+    assert_eq!((refused.number, refused.count), (14, 0));
+    assert_eq!(list, [5; 256]);
 
     let tick = Step { kind: 2, event: 0 };
     let mut answers = vec![5; 4097];

@@ -44,7 +44,7 @@ fn half_of_the_tables_are_firm() {
         }
     });
     println!("{firm:?} of {tables:?}");
-    assert_eq!(tables.len(), 20);
+    assert_eq!(tables.len(), 21);
     for (call, &times) in &tables {
         let firm = firm.get(call).copied().unwrap_or(0);
         assert!(firm * 5 > times * 2, "{call}: {firm} of {times}");

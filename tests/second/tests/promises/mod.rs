@@ -3,6 +3,7 @@
 //! it breaks.
 
 mod carrying;
+mod chain;
 mod counts;
 pub mod firm;
 mod hold_up;
@@ -801,6 +802,20 @@ pub fn promise(case: &Case, answer: &Answer) -> Promise {
         }
         (Case::HoldUp { pair, event }, Answer::HoldUp(answer)) => {
             hold_up::hold_up_promise(pair, *event, answer)
+        }
+        (
+            Case::Chain { pair, event, list },
+            Answer::Chain {
+                number,
+                count,
+                list: after,
+            },
+        ) => {
+            let answer = ChainAnswer {
+                number: *number,
+                count: *count,
+            };
+            chain::chain_promise(pair, *event, list, &answer, after)
         }
         (Case::Closure { pair }, Answer::Closure(answer)) => closure_promise(pair, answer),
         (Case::Check { pair }, Answer::Check(answer)) => check_promise(pair, answer),
