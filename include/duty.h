@@ -47,14 +47,15 @@
  * was handed in.
  *
  * Stack. Bytes that a call takes at most on x86-64, its callers and what they lend not counted, nor memcpy and memset of the C library. They
- * are measured, of the compiled library, and not proved: docs/BENCH.md, 'Stack', says how. None takes more than 24 KiB. There is no recursion
- * and no heap.
- *     duty_run 24,064             duty_guarded_tick 23,056  duty_check 19,088       duty_request 18,048
- *     duty_report 18,048          duty_plain_tick 18,048    duty_margin 17,968      duty_closure 16,432
- *     duty_enabled 15,888         duty_hold_up 15,888       duty_due 14,608         duty_remedies 14,360
- *     duty_record 12,752          duty_judge 11,680         duty_relation 8,528     duty_class 6,416
- *     duty_firm 6,400             duty_write_table 4,464    duty_fresh 4,208        duty_carry 3,184
- *     duty_size, duty_lowest 8
+ * are measured, of the compiled library, and not proved: docs/BENCH.md, 'Stack', says how. None takes more than 24 KiB but duty_chain, which
+ * takes at most 32 KiB: it visits events by bounded recursion, one visit within another for each event at most, 64, and one more that finds its
+ * event open. No other call recurses, and there is no heap.
+ *     duty_chain 0                duty_run 24,064           duty_guarded_tick 23,056  duty_check 19,088
+ *     duty_request 18,048         duty_report 18,048        duty_plain_tick 18,048    duty_margin 17,968
+ *     duty_closure 16,432         duty_enabled 15,888       duty_hold_up 15,888       duty_due 14,608
+ *     duty_remedies 14,360        duty_record 12,752        duty_judge 11,680         duty_relation 8,528
+ *     duty_class 6,416            duty_firm 6,400           duty_write_table 4,464    duty_fresh 4,208
+ *     duty_carry 3,184            duty_size, duty_lowest 8
  */
 #ifndef DUTY_H
 #define DUTY_H
@@ -67,10 +68,8 @@ extern "C" {
 #endif
 
 /* It grows by one wherever a function, a number or an image is changed, so that code written for another one can refuse to compile.
-   5, since 4: duty_margin tells of an ignored condition what it would be if its right event were included, by kind 1 where that is never and by
-   kind 4 where it is ticks; duty_hold_up tells by kind 3 of an enabled event what would block it. Code that takes kind 1 for every ignored
-   condition, or kind 0 for every enabled event, is to be changed. No image and no refusal is another. */
-#define DUTY_VERSION 5
+   6, since 5: duty_chain is new. Nothing else is another, so code that is written for 5 stays as it is. */
+#define DUTY_VERSION 6
 
 /* A compiler that knows these words warns where a null pointer, or an overlap with what is written, can be seen. */
 #if defined(__GNUC__)
@@ -140,6 +139,7 @@ enum {
     DUTY_MOST_RELATIONS = 256,
     DUTY_MOST_STEPS = 4096,
     DUTY_LONGEST_LIST = 255,        /* events of an offered list */
+    DUTY_CHAIN_PLACES = 256,        /* places of a list of duty_chain, at least */
     DUTY_LONGEST_TABLE = 1604,      /* bytes of a table image: 4 + 64 + 6 * 256 */
     DUTY_LONGEST_MARKING = 768,     /* bytes of a marking image: 12 * 64 */
     DUTY_LIMIT = 1000000000         /* the largest age, time and deadline */
@@ -237,6 +237,17 @@ enum {
 };
 DUTY_CALL uint8_t duty_hold_up(const uint8_t *table, size_t table_length, const uint8_t *marking, size_t marking_length,
                                size_t event, uint8_t *DUTY_ALONE kind, size_t *DUTY_ALONE relation);
+
+/* Every relation that stands in an event's way: one that blocks the event, then in the same way all that stand in the way of its right event, then
+   the next one that blocks the event; those of one event in the table's order. Each event is opened once, at its first visit, so a circle ends: a
+   relation whose right event is open already is listed, and nothing below it. A place of the list is 256 * relation + depth; the event's own
+   relations have depth 0, those of their right events depth 1, and none is deeper than 63. The first `count` places are written, and those behind
+   them stay. Nothing is listed where the event is enabled, nor where it is excluded: duty_hold_up tells which. `list` has at least 256 places,
+   since each relation is listed at most once. 8, then 14 where there are fewer, also where they would do. */
+#define DUTY_CHAIN_RELATION(place) ((place) / 256)
+#define DUTY_CHAIN_DEPTH(place) ((place) % 256)
+DUTY_CALL uint8_t duty_chain(const uint8_t *table, size_t table_length, const uint8_t *marking, size_t marking_length, size_t event,
+                             uint16_t *DUTY_ALONE list, size_t list_length, size_t *DUTY_ALONE count);
 
 /* The closure of the static check, also where it rejects, and how many events it holds. */
 DUTY_CALL uint8_t duty_closure(const uint8_t *table, size_t table_length, const uint8_t *marking, size_t marking_length,

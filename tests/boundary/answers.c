@@ -7,7 +7,9 @@
  * size and firm take the first half of a large one; the places of a record's fields, or of a relation's numbers, are the second list, 4 bytes
  * each. A table is written to the second list: asked are the events, firm comes in place of a table, 4 bytes, of which those that are missing
  * are 0 and more are not looked at, the first list is the classes, and in place of the marking come the relations' numbers, 4 bytes each,
- * bytes behind the last whole one not counted. An old marking is carried over from the first list to the second: asked are the events.
+ * bytes behind the last whole one not counted. An old marking is carried over from the first list to the second: asked are the events. The list
+ * that a chain is written to is the second list, 2 bytes for each place, a byte behind the last whole one not counted; how many are written is the
+ * second large value.
  */
 #include "duty.h"
 #include <stdio.h>
@@ -22,6 +24,7 @@ struct list {
 
 static struct list table, marking, first, second;
 static uint32_t numbers[LONGEST / 4 + 1];
+static uint16_t chain[LONGEST / 2 + 1];
 
 static int take(void *bytes, size_t length) { return fread(bytes, 1, length, stdin) == length; }
 
@@ -110,6 +113,11 @@ int main(void)
         case 19: number = duty_class(TABLE, asked, &small); break;
         case 20: number = duty_carry(asked, FIRST, SECOND); break;
         case 21: number = duty_firm(TABLE, &firm); break;
+        case 22:
+            memcpy(chain, second.bytes, second.length);
+            number = duty_chain(TABLE, MARKING, asked, chain, second.length / sizeof chain[0], &count);
+            memcpy(second.bytes, chain, second.length);
+            break;
         default: return 1;
         }
         if (call == 5 || call == 11)

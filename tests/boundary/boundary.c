@@ -104,7 +104,7 @@ static void open_answers(void)
 /* A table and a marking, and every call on them */
 
 struct images {
-    struct lent table, marking, caused, answers, fields;
+    struct lent table, marking, caused, answers, fields, list;
 };
 
 #define T(i) (i).table.bytes, (i).table.length
@@ -118,6 +118,7 @@ static struct images take(const void *table, size_t table_length, const void *ma
     i.caused = lend(NULL, DUTY_MOST_EVENTS);
     i.answers = lend(NULL, 8);
     i.fields = lend(NULL, DUTY_FIELDS * sizeof(uint32_t));
+    i.list = lend(NULL, DUTY_CHAIN_PLACES * sizeof(uint16_t));
     shut(i.table);
     return i;
 }
@@ -129,6 +130,7 @@ static void leave(struct images i)
     give_back(i.caused);
     give_back(i.answers);
     give_back(i.fields);
+    give_back(i.list);
 }
 
 static uint8_t guarded(struct images i)
@@ -144,6 +146,11 @@ static uint8_t record(struct images i, size_t event)
 static uint8_t relation(struct images i, size_t k)
 {
     return duty_relation(T(i), k, (uint32_t *)(void *)i.fields.bytes, i.fields.length / sizeof(uint32_t));
+}
+
+static uint8_t chain(struct images i, size_t event)
+{
+    return duty_chain(T(i), M(i), event, (uint16_t *)(void *)i.list.bytes, i.list.length / sizeof(uint16_t), COUNT);
 }
 
 static uint8_t run(struct images i, const void *steps, size_t length)
@@ -164,6 +171,7 @@ static void all_refused(const void *table, size_t table_length, const void *mark
     shut(i.caused);
     shut(i.answers);
     shut(i.fields);
+    shut(i.list);
     shut_answers();
     CHECK(duty_judge(T(i), M(i)) == number);
     CHECK(record(i, 0) == number);
@@ -174,6 +182,8 @@ static void all_refused(const void *table, size_t table_length, const void *mark
     CHECK(duty_plain_tick(T(i), M(i)) == number);
     CHECK(duty_margin(T(i), M(i), 0, SMALL, TICKS) == number);
     CHECK(duty_hold_up(T(i), M(i), 0, SMALL, PLACE) == number);
+    CHECK(chain(i, 0) == number);
+    CHECK(chain(i, SIZE_MAX) == number);
     CHECK(duty_closure(T(i), M(i), SET, SIZE) == number);
     CHECK(duty_check(T(i), M(i), SMALL, PLACE) == number);
     CHECK(guarded(i) == number);
@@ -1178,6 +1188,142 @@ static void tells_nothing(void)
     leave(i);
 }
 
+/* Chains */
+
+/* A place of a list: a relation, and how deep it stands. */
+#define AT(relation, depth) ((uint16_t)(256 * (relation) + (depth)))
+
+/* So many places are written, these, and the others are as they were lent: bytes 0xA5. */
+static int lists(struct images i, size_t event, const uint16_t *places, size_t n)
+{
+    static const size_t left = 9;
+    *COUNT = left;
+    memset(i.list.bytes, 0xA5, i.list.length);
+    if (chain(i, event) != DUTY_DONE || *COUNT != n || memcmp(i.list.bytes, places, n * sizeof places[0]) != 0)
+        return 0;
+    for (size_t k = n * sizeof places[0]; k < i.list.length; k++)
+        if (i.list.bytes[k] != 0xA5)
+            return 0;
+    return kept_before(i.list) && kept_before(count);
+}
+
+/* Where the flush stands, from the leak on. */
+static void lists_the_shops(void)
+{
+    static const uint16_t both[] = {AT(1, 0), AT(4, 0)};
+    struct images i = shop();
+    shut(i.marking);
+    CHECK(lists(i, FLUSH, both, 0)); /* excluded */
+    CHECK(lists(i, ISOLATE, both, 0)); /* enabled */
+    open_up(i.marking);
+    CHECK(duty_report(T(i), M(i), LEAK) == DUTY_DONE);
+    CHECK(lists(i, FLUSH, both, 2));
+    CHECK(duty_request(T(i), M(i), ISOLATE) == DUTY_DONE);
+    CHECK(lists(i, FLUSH, both + 1, 1));
+    CHECK(duty_request(T(i), M(i), DRAIN) == DUTY_DONE);
+    CHECK(lists(i, FLUSH, both, 0));
+    leave(i);
+}
+
+/* A relation, all below it, then the next; an event that is open is not opened again; an excluded one is left out, and nobody waits for it. */
+static void lists_downwards(void)
+{
+    static const uint32_t numbers[] = {
+        DUTY_CONDITION, 2, 3, 1, 0, /* 0 */
+        DUTY_CONDITION, 0, 1, 1, 0, /* 1 */
+        DUTY_MILESTONE, 0, 2, 0, 0, /* 2 */
+        DUTY_CONDITION, 1, 3, 1, 5, /* 3 */
+        DUTY_MILESTONE, 3, 3, 0, 0, /* 4: on itself */
+        DUTY_CONDITION, 3, 0, 1, 0, /* 5: back to the first */
+        DUTY_CONDITION, 0, 3, 1, 0, /* 6 */
+        DUTY_RESPONSE, 0, 1, 0, 0,
+    };
+    static const uint16_t all[] = {AT(1, 0), AT(3, 1), AT(4, 2), AT(5, 2), AT(2, 0), AT(0, 1), AT(6, 0)};
+    static const uint16_t of_3[] = {AT(4, 0), AT(5, 0), AT(1, 1), AT(3, 2), AT(2, 1), AT(0, 2), AT(6, 1)};
+    static const uint16_t without_3[] = {AT(1, 0), AT(2, 0)}, late[] = {AT(1, 0), AT(3, 1), AT(2, 0)};
+    static const struct state todo = {0, 0, &eventually, 1}, away = {0, 0, &eventually, 0};
+    static const struct state lately = {1, 4, &nothing, 1}, long_ago = {1, 5, &nothing, 1};
+    static struct draft d;
+    drafted(&d, 4, DUTY_CONTROLLABLE, 8, numbers);
+    memcpy(d.numbers, numbers, sizeof numbers);
+    struct images i = made(&d);
+    for (size_t e = 0; e < 4; e++)
+        set_state(i, e, todo);
+    CHECK(lists(i, 0, all, 7));
+    CHECK(lists(i, 3, of_3, 7));
+    set_state(i, 3, away);
+    CHECK(lists(i, 0, without_3, 2) && lists(i, 3, all, 0) && lists(i, 2, all, 0));
+    set_state(i, 3, lately); /* not long enough ago for event 1 alone; it waits for event 0, which is open */
+    CHECK(lists(i, 0, (const uint16_t[]){AT(1, 0), AT(3, 1), AT(5, 2), AT(2, 0)}, 4));
+    set_state(i, 0, long_ago);
+    CHECK(lists(i, 0, late, 3));
+    set_state(i, 3, long_ago);
+    CHECK(lists(i, 0, without_3, 2) && lists(i, 1, all, 0) && lists(i, 3, all, 0));
+    leave(i);
+}
+
+/* Each event waits for the next and the last for the first, by the relations in the table's order or from the last to the first. */
+static void lists_at_the_deepest(void)
+{
+    static const uint32_t numbers[DUTY_NUMBERS] = {DUTY_CONDITION, 0, 0, 1, 0};
+    static uint16_t expected[DUTY_MOST_EVENTS];
+    static struct draft d;
+    for (uint32_t turned = 0; turned <= 1; turned++) {
+        drafted(&d, DUTY_MOST_EVENTS, DUTY_CONTROLLABLE, DUTY_MOST_EVENTS, numbers);
+        for (uint32_t e = 0; e < DUTY_MOST_EVENTS; e++) {
+            uint32_t k = turned ? DUTY_MOST_EVENTS - 1 - e : e;
+            d.numbers[DUTY_NUMBERS * k + DUTY_AT_LEFT] = e;
+            d.numbers[DUTY_NUMBERS * k + DUTY_AT_RIGHT] = (e + 1) % DUTY_MOST_EVENTS;
+            expected[e] = AT(k, e);
+        }
+        struct images i = made(&d);
+        shut(i.marking);
+        CHECK(lists(i, 0, expected, DUTY_MOST_EVENTS));
+        leave(i);
+    }
+}
+
+/* All 256 relations of one event, each at its place: the list is written to its end. */
+static void lists_all(void)
+{
+    static const uint32_t numbers[DUTY_NUMBERS] = {DUTY_CONDITION, 63, 0, 1, 0};
+    static uint16_t expected[DUTY_CHAIN_PLACES];
+    static struct draft d;
+    drafted(&d, DUTY_MOST_EVENTS, DUTY_CONTROLLABLE, DUTY_MOST_RELATIONS, numbers);
+    for (uint32_t k = 0; k < DUTY_MOST_RELATIONS; k++) {
+        d.numbers[DUTY_NUMBERS * k + DUTY_AT_RIGHT] = k % DUTY_MOST_EVENTS;
+        expected[k] = AT(k, 0);
+    }
+    struct images i = made(&d);
+    shut(i.marking);
+    CHECK(lists(i, 63, expected, DUTY_CHAIN_PLACES));
+    CHECK(DUTY_CHAIN_RELATION(expected[255]) == 255 && DUTY_CHAIN_DEPTH(expected[255]) == 0);
+    give_back(i.list);
+    i.list = lend(NULL, (DUTY_CHAIN_PLACES + 1) * sizeof(uint16_t));
+    CHECK(lists(i, 63, expected, DUTY_CHAIN_PLACES)); /* a place more stays */
+    leave(i);
+}
+
+/* With fewer than 256 places nothing is listed, also where nothing would be; 8 comes first, and a refusal writes nothing. */
+static void lists_nothing(void)
+{
+    static const size_t rooms[] = {0, 1, 255};
+    struct images i = shop();
+    CHECK(duty_report(T(i), M(i), LEAK) == DUTY_DONE);
+    shut(i.marking);
+    shut(i.list);
+    shut_answers();
+    CHECK(chain(i, EVENTS) == DUTY_NONE_SUCH && chain(i, SIZE_MAX) == DUTY_NONE_SUCH);
+    for (size_t k = 0; k < sizeof rooms / sizeof rooms[0]; k++) {
+        i.list.length = rooms[k] * sizeof(uint16_t);
+        CHECK(chain(i, FLUSH) == DUTY_ROOM);
+        CHECK(chain(i, ISOLATE) == DUTY_ROOM);
+        CHECK(chain(i, EVENTS) == DUTY_NONE_SUCH && chain(i, SIZE_MAX) == DUTY_NONE_SUCH);
+    }
+    open_answers();
+    leave(i);
+}
+
 /* What is read and what is not, and the first number where several apply. */
 static void keeps_the_limits(void)
 {
@@ -1303,6 +1449,11 @@ int main(void)
     names_the_lowest();
     names_at_the_limits();
     tells_nothing();
+    lists_the_shops();
+    lists_downwards();
+    lists_at_the_deepest();
+    lists_all();
+    lists_nothing();
     keeps_the_limits();
     refuses_disagreeing_counts();
     reads_overlapping();
