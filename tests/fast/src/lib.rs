@@ -9,6 +9,7 @@
 
 mod ask;
 mod carry;
+mod chain;
 mod check;
 mod decoded;
 mod effect;
@@ -26,6 +27,7 @@ mod trace;
 
 pub use ask::{report, request};
 pub use carry::carry_marking;
+pub use chain::chain;
 pub use check::{check, closure, Closure, Verdict};
 pub use decoded::{Marking, Record, Relation, Table};
 pub use enabled::{enabled, hold_up, margin, HoldUp, Margin, Rest};

@@ -218,6 +218,16 @@ fn answer(case: &Case) -> Option<Answer> {
                 Ok(fast::HoldUp::Blocked(relation)) => HoldUpAnswer::Blocked(relation),
             })
         }
+        Case::Chain { pair, event, list } => {
+            let (t, m) = decoded(pair);
+            let mut list = list.clone();
+            let told = fast::chain(&t, &m, *event, &mut list);
+            Answer::Chain {
+                number: told.err().unwrap_or(0),
+                count: told.unwrap_or(0),
+                list,
+            }
+        }
         Case::Closure { pair } => {
             let (t, m) = decoded(pair);
             Answer::Closure(match fast::closure(&t, &m) {
@@ -332,7 +342,7 @@ fn cases_at_the_limits_agree() {
             }
         }
     }
-    assert_eq!(asked.len(), 21);
+    assert_eq!(asked.len(), 22);
 }
 
 /// Firm decides in so many random cases of a call, or more; that of a firm table and
@@ -377,6 +387,37 @@ fn what_would_be_if_events_returned_agrees() {
     assert!(
         [never, by, unless].iter().all(|&n| n > 1000),
         "{never}, {by}, {unless}"
+    );
+}
+
+/// How deep the deepest listed relation is.
+fn deepest(count: usize, list: &[u16]) -> Option<u16> {
+    list[..count].iter().map(|place| place % 256).max()
+}
+
+#[test]
+fn random_chains_agree() {
+    let mut rng = Rng::new(9);
+    let (mut none, mut own, mut deeper, mut refused) = (0, 0, 0, 0);
+    for _ in 0..20_000 {
+        let agreed = agreed(&generate::chain_case(&mut rng));
+        if let Some(Answer::Chain {
+            number,
+            count,
+            list,
+        }) = agreed
+        {
+            match (number, deepest(count, &list)) {
+                (0, None) => none += 1,
+                (0, Some(0)) => own += 1,
+                (0, Some(_)) => deeper += 1,
+                _ => refused += 1,
+            }
+        }
+    }
+    assert!(
+        [none, own, deeper, refused].iter().all(|&n| n > 500),
+        "{none}, {own}, {deeper}, {refused}"
     );
 }
 
