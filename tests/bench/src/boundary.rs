@@ -30,7 +30,7 @@ const fn call(name: &'static str, case: fn(&mut Rng) -> Case) -> Call {
 }
 
 /// By their numbers in a question. Judging, records and firm take the cases of other calls.
-const CALLS: [Call; 22] = [
+const CALLS: [Call; 23] = [
     call("judge", generate::due_case),
     call("fresh", generate::fresh_case),
     call("size", generate::size_case),
@@ -53,6 +53,7 @@ const CALLS: [Call; 22] = [
     call("class", generate::tell_class_case),
     call("carry", generate::carry_marking_case),
     call("firm", generate::tell_class_case),
+    call("chain", generate::chain_case),
 ];
 
 /// The numbers that some call gives; 15 is a step's.
@@ -60,7 +61,7 @@ const NUMBERS: std::ops::RangeInclusive<u8> = 0..=14;
 
 /// The numbers that each of these calls gives. Most are given by other calls too,
 /// so they are looked for call by call.
-const NUMBERS_OF: [(&str, &[u8]); 9] = [
+const NUMBERS_OF: [(&str, &[u8]); 10] = [
     ("record", &[0, 1, 2, 3, 4, 5, 6, 7, 8, 14]),
     ("write_table", &[0, 1, 2, 3, 4, 5, 6, 14]),
     (WRITE_FIRM, &[0, 1, 2, 3, 4, 5, 6, 14]),
@@ -70,6 +71,7 @@ const NUMBERS_OF: [(&str, &[u8]); 9] = [
     ("carry", &[0, 1, 3, 7, 14]),
     ("firm", &[0, 1, 2, 3, 4, 5, 6]),
     (TOLD_FIRM, &[0]),
+    ("chain", &[1, 2, 3, 4, 5, 6, 7, 8, 14]),
 ];
 
 /// Looked for apart from the others of their call: a table that is to be firm, one
@@ -99,10 +101,21 @@ const HOLD_UPS: [&str; 4] = [
     "hold_up, enabled unless",
 ];
 
+/// What a chain that is done counts for: by how many places are written, and how deep the
+/// deepest is.
+const CHAINS: [&str; 5] = [
+    "chain, none listed",
+    "chain, one listed",
+    "chain, several of its own",
+    "chain, 1 to 3 deep",
+    "chain, 4 or more deep",
+];
+
 /// Each of these is looked for, beside the numbers.
 fn kinds() -> impl Iterator<Item = (&'static str, u8)> {
     let margins = MARGINS.into_iter().map(|(_, name)| name);
-    margins.chain(HOLD_UPS).map(|name| (name, 0))
+    let others = HOLD_UPS.into_iter().chain(CHAINS);
+    margins.chain(others).map(|name| (name, 0))
 }
 
 /// Which numbers came up, and of which call.
@@ -136,6 +149,20 @@ impl Answer {
         let kind = MARGINS.iter().find(|kind| kind.0 == (self.small, sign));
         kind.expect("there is such a kind").1
     }
+
+    /// Of a chain that is done.
+    fn chain(&self) -> &'static str {
+        let count = u64::from_le_bytes(self.count) as usize;
+        let places = numbers_in(&self.second, u16::from_le_bytes).0;
+        let deepest = places[..count].iter().map(|place| place % 256).max();
+        CHAINS[match (count, deepest.unwrap_or(0)) {
+            (0, _) => 0,
+            (1, _) => 1,
+            (_, 0) => 2,
+            (_, 1..=3) => 3,
+            _ => 4,
+        }]
+    }
 }
 
 /// So many bytes with something in them, now and then one less or some more.
@@ -168,12 +195,17 @@ fn bytes_of(numbers: &[u32]) -> Vec<u8> {
     numbers.iter().flat_map(|n| n.to_le_bytes()).collect()
 }
 
+/// The places of a chain's list, of 2 bytes each.
+fn bytes_of_places(places: &[u16]) -> Vec<u8> {
+    places.iter().flat_map(|n| n.to_le_bytes()).collect()
+}
+
 /// The numbers that these bytes are, and the bytes behind the last whole one.
-fn numbers_in(bytes: &[u8]) -> (Vec<u32>, &[u8]) {
-    let places = bytes.chunks_exact(4);
+fn numbers_in<const N: usize, T>(bytes: &[u8], of: fn([u8; N]) -> T) -> (Vec<T>, &[u8]) {
+    let places = bytes.chunks_exact(N);
     let behind = places.remainder();
     let numbers = places
-        .map(|place| u32::from_le_bytes(place.try_into().expect("a place has four bytes")))
+        .map(|place| of(place.try_into().expect("a place has so many bytes")))
         .collect();
     (numbers, behind)
 }
@@ -203,6 +235,10 @@ impl Question {
             | Case::Request { event, .. }
             | Case::Report { event, .. }
             | Case::HoldUp { event, .. } => question.asked = event as u64,
+            Case::Chain { event, list, .. } => {
+                question.asked = event as u64;
+                question.second = bytes_of_places(&list);
+            }
             Case::Margin { relation, .. } => question.asked = relation as u64,
             Case::GuardedTick { pair } => {
                 question.second = buffer(rng, pair.table.events.min(70));
@@ -329,7 +365,7 @@ impl Question {
 
     /// Of a call that writes to the places that the second list is.
     fn in_places(&self, call: impl Fn(&mut [u32]) -> u8) -> Answer {
-        let (mut places, behind) = numbers_in(&self.second);
+        let (mut places, behind) = numbers_in(&self.second, u32::from_le_bytes);
         let mut answer = self.untouched(call(&mut places));
         answer.second = [&bytes_of(&places), behind].concat();
         answer
@@ -338,7 +374,7 @@ impl Question {
     /// Firm stands in the table's place, 4 bytes of which those that are missing are
     /// 0; the relations' numbers stand in the marking's.
     fn write_table(&self) -> Answer {
-        let (relations, _) = numbers_in(&self.marking);
+        let (relations, _) = numbers_in(&self.marking, u32::from_le_bytes);
         let mut answer = self.untouched(0);
         let (events, table) = (self.asked as usize, &mut answer.second);
         answer.number = second::build_table(events, self.firm(), &self.first, &relations, table);
@@ -378,6 +414,7 @@ impl Question {
             "write_table" if self.firm() > 1 => WRITE_NEITHER,
             "firm" if answer.large[0] == 1 => TOLD_FIRM,
             "margin" if answer.number == 0 => answer.margin(),
+            "chain" if answer.number == 0 => answer.chain(),
             "hold_up" if answer.number == 0 => HOLD_UPS[usize::from(answer.small)],
             name => name,
         };
@@ -418,6 +455,7 @@ impl Question {
                     self.told(0, kind, Some(relation as u64))
                 }
             },
+            "chain" => self.chain(t, m),
             "check" => {
                 let told = second::check(t, m);
                 let mut answer = self.told(0, told.reason, Some(u64::from(told.place)));
@@ -459,6 +497,18 @@ impl Question {
     fn ticks(&self, kind: u8, ticks: i32) -> Answer {
         let mut answer = self.told(0, kind, None);
         answer.large[..4].copy_from_slice(&ticks.to_le_bytes());
+        answer
+    }
+
+    /// The lent list is the second list; a byte behind its last whole place is none.
+    fn chain(&self, t: &Table, m: &Marking) -> Answer {
+        let (mut list, behind) = numbers_in(&self.second, u16::from_le_bytes);
+        let told = second::chain(t, m, self.asked as usize, &mut list);
+        let mut answer = self.untouched(told.number);
+        answer.second = [&bytes_of_places(&list), behind].concat();
+        if told.number == 0 {
+            answer.count = (told.count as u64).to_le_bytes();
+        }
         answer
     }
 
@@ -605,8 +655,8 @@ mod tests {
     #[test]
     fn a_number_that_does_not_come_up_is_missed() {
         let mut seen: Seen = NUMBERS.map(|number| ("run", number)).collect();
-        let of_calls = 10 + 8 + 8 + 1 + 9 + 8 + 5 + 7 + 1;
-        assert_eq!(missing(&seen).len(), of_calls + 13);
+        let of_calls = 10 + 8 + 8 + 1 + 9 + 8 + 5 + 7 + 1 + 9;
+        assert_eq!(missing(&seen).len(), of_calls + 9 + 4 + 5);
         for (name, numbers) in NUMBERS_OF {
             seen.extend(numbers.iter().map(|&number| (name, number)));
         }
@@ -844,6 +894,74 @@ mod tests {
         question.table[7] |= 0x80;
         let second = [1, 0, 0, 0, 0, 0, 0, 0];
         assert_eq!(seen(&question), ("hold_up, enabled unless", 3, second));
+    }
+
+    /// Events that wait each for the next one, the last for the first; and the room for so
+    /// many places, and a byte.
+    fn circle(events: u8, room: usize) -> Question {
+        let waits = |event: u8| {
+            let right = (event + 1) % events;
+            [
+                0x20 + event / 2,
+                event % 2 * 128 + right * 2 + 1,
+                0,
+                0,
+                0,
+                0,
+            ]
+        };
+        let mut table = vec![2 * events, events, 0, 0];
+        table.extend(vec![0; events.into()]);
+        table.extend((0..events).flat_map(waits));
+        Question {
+            call: number_of("chain"),
+            asked: 0,
+            table,
+            marking: [0, 0, 0, 1, 0, 0, 0, 0, 0, 0, 0, 0].repeat(events.into()),
+            first: vec![4],
+            second: vec![7; 2 * room + 1],
+        }
+    }
+
+    #[test]
+    fn a_chain_is_told_in_the_second_list() {
+        let mut question = circle(3, 256);
+        question.asked = 1;
+        let mut told = question.untouched(0);
+        told.count = [3, 0, 0, 0, 0, 0, 0, 0];
+        // Relations 1, 2 and 0, each one deeper.
+        told.second[..6].copy_from_slice(&[0, 1, 1, 2, 2, 0]);
+        assert_eq!(question.expected(), told);
+        // The last refusal first, each before the one that was there.
+        question.second.pop();
+        question.second.pop();
+        assert_eq!(question.expected(), question.untouched(14));
+        question.asked = 3;
+        assert_eq!(question.expected(), question.untouched(8));
+        question.marking[7] = 1;
+        assert_eq!(question.expected(), question.untouched(7));
+        question.table[3] = 1;
+        assert_eq!(question.expected(), question.untouched(2));
+    }
+
+    #[test]
+    fn each_sort_of_chain_is_seen() {
+        for (events, name) in [
+            (1, "one listed"),
+            (2, "1 to 3 deep"),
+            (4, "1 to 3 deep"),
+            (5, "4 or more deep"),
+        ] {
+            let name: &str = &format!("chain, {name}");
+            let mut question = circle(events, 256);
+            assert_eq!(seen(&question), (name, BEFORE, [BEFORE; 8]));
+            question.marking[3] = 0;
+            assert_eq!(seen(&question).0, "chain, none listed");
+        }
+        // The second event is open, and both relations are the first one's.
+        let mut question = circle(2, 256);
+        question.table[13] = 3;
+        assert_eq!(seen(&question).0, "chain, several of its own");
     }
 
     #[test]

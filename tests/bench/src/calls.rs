@@ -29,7 +29,7 @@ const fn call(
     }
 }
 
-pub const CALLS: [Call; 23] = [
+pub const CALLS: [Call; 24] = [
     call(
         1,
         "read_table",
@@ -98,6 +98,7 @@ pub const CALLS: [Call; 23] = [
         generate::carry_marking_case,
         edges::carry_marking,
     ),
+    call(24, "chain", generate::chain_case, edges::chain),
 ];
 
 /// The calls with these numbers, written as `1-6,9`; None if it is no such list.

@@ -1,15 +1,17 @@
 //! The cases at the limits, the same in every run: each count, time and length
 //! at its limit and one past it, each spare bit, each field of a relation and of
 //! a record at each of its limits, faults where no call looks, and two faults at
-//! once, whose order decides the number; firm tables and tables that are not; and
-//! excluded events that might return.
+//! once, whose order decides the number; firm tables and tables that are not;
+//! excluded events that might return; and chains of events that wait for each other.
 
 mod carrying;
+mod chain;
 mod counted;
 mod firm;
 mod returned;
 
 pub use carrying::carry_marking;
+pub use chain::chain;
 pub use firm::remedies;
 
 use crate::full;
@@ -763,6 +765,7 @@ mod tests {
         assert_eq!(numbers(judge_table()), [0, 3, 4, 5, 6]);
         assert_eq!(numbers(judge_marking()), [0, 1, 3, 7]);
         assert_eq!(numbers(carry_marking()), [0, 1, 3, 7, 14]);
+        assert_eq!(numbers(chain()), [0, 1, 3, 4, 5, 6, 7, 8, 14]);
     }
 
     #[test]

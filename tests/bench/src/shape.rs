@@ -1,6 +1,7 @@
 //! What a case has in it, so that a run can show that it went where a guarded
 //! tick has much to do. Nothing is compared here.
 
+mod chain;
 mod counted;
 mod firm;
 mod returned;
@@ -205,6 +206,14 @@ pub fn of(case: &Case, answer: &Answer) -> Vec<&'static str> {
         (Case::HoldUp { event, .. }, Answer::HoldUp(hold_up)) => {
             returned::of_hold_up(pair, *event, hold_up)
         }
+        (
+            Case::Chain { event, .. },
+            Answer::Chain {
+                number,
+                count,
+                list,
+            },
+        ) => chain::of(pair, *event, (*number, *count, list)),
         _ => Vec::new(),
     };
     shapes.extend(firm::of_table(&pair.table));

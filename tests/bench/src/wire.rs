@@ -69,6 +69,11 @@ fn put_list(out: &mut Vec<u8>, list: &[u8]) {
     out.extend(list);
 }
 
+/// The places of a list, to the end of what it stands in.
+fn put_places(out: &mut Vec<u8>, places: &[u16]) {
+    out.extend(places.iter().flat_map(|place| place.to_le_bytes()));
+}
+
 /// The arguments of a call.
 pub fn payload(case: &Case) -> Vec<u8> {
     let mut out = Vec::new();
@@ -99,6 +104,11 @@ pub fn payload(case: &Case) -> Vec<u8> {
         Case::Margin { pair, relation } => {
             put_pair(&mut out, pair);
             put_number(&mut out, *relation);
+        }
+        Case::Chain { pair, event, list } => {
+            put_pair(&mut out, pair);
+            put_number(&mut out, *event);
+            put_places(&mut out, list);
         }
         Case::Due { pair }
         | Case::PlainTick { pair }
@@ -232,6 +242,10 @@ pub fn answer(case: &Case, answer: &Answer) -> Vec<u8> {
             out.push(case);
             put_number(&mut out, relation);
         }
+        Answer::Chain { count, list, .. } => {
+            put_number(&mut out, *count);
+            put_places(&mut out, list);
+        }
         Answer::Check(answer) => {
             out.push(answer.reason);
             put_number(&mut out, usize::from(answer.place));
@@ -344,6 +358,32 @@ mod tests {
         assert_eq!(of(HoldUpAnswer::Blocked(258)), told(0, 2, 2, 1));
         assert_eq!(of(HoldUpAnswer::EnabledUnless(258)), told(0, 3, 2, 1));
         assert_eq!(of(HoldUpAnswer::EnabledUnless(0)), told(0, 3, 0, 0));
+    }
+
+    #[test]
+    fn a_chain_is_its_count_and_the_whole_lent_list() {
+        let case = Case::Chain {
+            pair: Pair {
+                table: Box::new(Table::EMPTY),
+                marking: Box::new(Marking::EMPTY),
+            },
+            event: 0x0102,
+            list: vec![0x0304, 0x0506],
+        };
+        let payload = payload(&case);
+        assert_eq!(payload.len(), 2088 + 1032 + 8 + 4);
+        assert_eq!(payload[3120..], [2, 1, 0, 0, 0, 0, 0, 0, 4, 3, 6, 5]);
+        let of = |number, count, list| {
+            on_the_wire(Answer::Chain {
+                number,
+                count,
+                list,
+            })
+        };
+        let told = of(0, 1, vec![0x0304, 0x0506]);
+        assert_eq!(told, [0, 1, 0, 0, 0, 0, 0, 0, 0, 4, 3, 6, 5]);
+        assert_eq!(of(14, 0, vec![7]), [14, 0, 0, 0, 0, 0, 0, 0, 0, 7, 0]);
+        assert_eq!(of(0, 256, vec![]), [0, 0, 1, 0, 0, 0, 0, 0, 0]);
     }
 
     #[test]
