@@ -188,6 +188,26 @@ impl Calls for Baseline {
         })
     }
 
+    fn chain(
+        &self,
+        table: &[u8],
+        marking: &[u8],
+        event: usize,
+        list: &mut [u16],
+        times: usize,
+    ) -> u64 {
+        turns(table, marking, times, |t, m, sum| {
+            let (number, count) = match fast::chain(t, m, event, list) {
+                Ok(count) => (0, count),
+                Err(number) => (number, 0),
+            };
+            // The last place that is written; where none is, the first.
+            let last = list.get(count.saturating_sub(1)).copied();
+            let sum = taken(taken(sum, number.into()), count as u64);
+            taken(sum, last.unwrap_or(0).into())
+        })
+    }
+
     fn margin(&self, table: &[u8], marking: &[u8], times: usize) -> u64 {
         turns(table, marking, times, |t, m, sum| {
             let word = match fast::margin(t, m, below(t.count, sum)) {

@@ -15,6 +15,15 @@ pub trait Calls {
     fn judge_marking(&self, events: usize, marking: &[u8], times: usize) -> u64;
     fn enabled(&self, table: &[u8], marking: &[u8], times: usize) -> u64;
     fn hold_up(&self, table: &[u8], marking: &[u8], times: usize) -> u64;
+    /// Of one event, each time into the same list.
+    fn chain(
+        &self,
+        table: &[u8],
+        marking: &[u8],
+        event: usize,
+        list: &mut [u16],
+        times: usize,
+    ) -> u64;
     fn margin(&self, table: &[u8], marking: &[u8], times: usize) -> u64;
     fn due(&self, table: &[u8], marking: &[u8], times: usize) -> u64;
     fn request(&self, table: &[u8], marking: &[u8], times: usize) -> u64;

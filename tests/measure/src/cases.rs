@@ -23,6 +23,9 @@ pub const GROWING: [Size; 3] = [Size::of(4, 8), Size::of(16, 64), Size::of(64, 2
 
 pub const STEPS: usize = 4096;
 
+/// The fewest places that a list of a chain may have.
+const PLACES: usize = 256;
+
 /// What the cases of one size are made of.
 pub struct Input {
     pub size: Size,
@@ -30,6 +33,8 @@ pub struct Input {
     rejected: Vec<u8>,
     firm: Vec<u8>,
     waiting: Vec<u8>,
+    ladder: Vec<u8>,
+    blocked: Vec<u8>,
     quiet: Vec<u8>,
     away: Vec<u8>,
     one_due: Vec<u8>,
@@ -39,6 +44,7 @@ pub struct Input {
     steps: Vec<u8>,
     repeats: Vec<u8>,
     buffer: Vec<u8>,
+    list: Vec<u16>,
 }
 
 impl Input {
@@ -49,6 +55,8 @@ impl Input {
             rejected: table_image(&sized::rejected_table(size)),
             firm: table_image(&sized::firm_table(size)),
             waiting: table_image(&sized::waiting_table(size)),
+            ladder: table_image(&sized::ladder_table(size)),
+            blocked: table_image(&sized::blocked_table(size)),
             quiet: marking_image(&sized::quiet(size)),
             away: marking_image(&sized::away(size)),
             one_due: marking_image(&sized::one_due(size)),
@@ -58,6 +66,7 @@ impl Input {
             steps: sized::steps(size, STEPS),
             repeats: sized::repeats(size, STEPS),
             buffer: vec![0; STEPS],
+            list: vec![0; PLACES],
         }
     }
 }
@@ -96,7 +105,7 @@ pub struct Case {
     pub run: fn(&mut Input, &dyn Calls, usize) -> u64,
 }
 
-pub const CASES: [Case; 26] = [
+pub const CASES: [Case; 28] = [
     case("read_table", |i, side, n| side.read_table(&mut i.table, n)),
     case("write_table", |i, side, n| {
         side.write_table(&i.table, &mut i.buffer, n)
@@ -119,6 +128,12 @@ pub const CASES: [Case; 26] = [
     case("hold_up", |i, side, n| side.hold_up(&i.table, &i.quiet, n)),
     case("hold_up, enabled unless", |i, side, n| {
         side.hold_up(&i.waiting, &i.away, n)
+    }),
+    case("chain, ladder", |i, side, n| {
+        side.chain(&i.ladder, &i.quiet, 0, &mut i.list, n)
+    }),
+    case("chain, one event", |i, side, n| {
+        side.chain(&i.blocked, &i.quiet, 0, &mut i.list, n)
     }),
     case("margin", |i, side, n| side.margin(&i.table, &i.quiet, n)),
     case("margin, ignored", |i, side, n| {

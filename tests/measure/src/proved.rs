@@ -29,6 +29,16 @@ extern "C" {
     fn timing_judge_marking(events: usize, m: *const u8, mn: usize, times: usize) -> u64;
     fn timing_enabled(t: *const u8, tn: usize, m: *const u8, mn: usize, times: usize) -> u64;
     fn timing_hold_up(t: *const u8, tn: usize, m: *const u8, mn: usize, times: usize) -> u64;
+    fn timing_chain(
+        t: *const u8,
+        tn: usize,
+        m: *const u8,
+        mn: usize,
+        event: usize,
+        l: *mut u16,
+        ln: usize,
+        times: usize,
+    ) -> u64;
     fn timing_margin(t: *const u8, tn: usize, m: *const u8, mn: usize, times: usize) -> u64;
     fn timing_due(t: *const u8, tn: usize, m: *const u8, mn: usize, times: usize) -> u64;
     fn timing_request(t: *const u8, tn: usize, m: *const u8, mn: usize, times: usize) -> u64;
@@ -128,6 +138,22 @@ impl Calls for Proved {
 
     fn judge_marking(&self, events: usize, m: &[u8], times: usize) -> u64 {
         unsafe { timing_judge_marking(events, m.as_ptr(), m.len(), times) }
+    }
+
+    fn chain(&self, t: &[u8], m: &[u8], event: usize, l: &mut [u16], times: usize) -> u64 {
+        let (to, room) = (l.as_mut_ptr(), l.len());
+        unsafe {
+            timing_chain(
+                t.as_ptr(),
+                t.len(),
+                m.as_ptr(),
+                m.len(),
+                event,
+                to,
+                room,
+                times,
+            )
+        }
     }
 
     fn report(&self, t: &[u8], m: &[u8], last: usize, times: usize) -> u64 {

@@ -94,6 +94,28 @@ pub fn waiting_table(size: Size) -> Table {
     table
 }
 
+/// The first condition of each event is one on the next, and has a time: where all events
+/// have just happened each waits for the next one, as far as the conditions reach, and no
+/// other relation blocks.
+pub fn ladder_table(size: Size) -> Table {
+    let mut table = table(size);
+    for event in 0..size.events - 1 {
+        if 2 * event < size.relations {
+            table.relations[2 * event] = relation(1, event, event + 1, Some(1));
+        }
+    }
+    table
+}
+
+/// Event 0 waits for each other event by conditions with a time, and by nothing else.
+pub fn blocked_table(size: Size) -> Table {
+    let mut table = table(size);
+    for n in 0..size.relations {
+        table.relations[n] = relation(1, 0, 1 + n % (size.events - 1), Some(1));
+    }
+    table
+}
+
 /// Every event included, and happened or not, but for the first, which has
 /// happened and is pending with a deadline.
 fn marking(size: Size, happened: bool, deadline: u32) -> Marking {
@@ -175,10 +197,10 @@ pub fn repeats(size: Size, count: usize) -> Vec<u8> {
 #[cfg(test)]
 mod tests {
     use super::*;
-    use crate::cases::SIZES;
+    use crate::cases::{GROWING, SIZES};
     use second::{
-        check, enabled, guarded_tick, hold_up, margin, remedies, report, request, run_bytes,
-        HoldUpAnswer, MarginAnswer, Rest,
+        chain as whole_chain, check, enabled, guarded_tick, hold_up, margin, remedies, report,
+        request, run_bytes, HoldUpAnswer, MarginAnswer, Rest,
     };
 
     #[test]
@@ -259,6 +281,35 @@ mod tests {
             let ignored = (0..size.relations).filter(|&n| margin(&t, &m, n) == met);
             let conditions = (size.relations + 1).saturating_sub(size.events);
             assert_eq!(ignored.count(), conditions, "{size:?}");
+        }
+    }
+
+    /// What is listed of event 0, relation and depth.
+    fn listed(t: &Table, m: &Marking) -> Vec<(usize, usize)> {
+        let mut list = [0; 256];
+        let answer = whole_chain(t, m, 0, &mut list);
+        assert_eq!(answer.number, 0);
+        let of = |&place: &u16| (usize::from(place / 256), usize::from(place % 256));
+        list[..answer.count].iter().map(of).collect()
+    }
+
+    #[test]
+    fn a_ladder_leads_down_one_event_after_the_other() {
+        for size in SIZES {
+            let down: Vec<(usize, usize)> = (0..reach(size) - 1).map(|n| (2 * n, n)).collect();
+            let told = listed(&ladder_table(size), &quiet(size));
+            assert_eq!(told, down, "{size:?}");
+        }
+        // The sizes that are shown have it down to their last event.
+        assert!(GROWING.iter().all(|&size| reach(size) == size.events));
+    }
+
+    #[test]
+    fn all_relations_may_block_one_event() {
+        for size in SIZES {
+            let own: Vec<(usize, usize)> = (0..size.relations).map(|n| (n, 0)).collect();
+            let told = listed(&blocked_table(size), &quiet(size));
+            assert_eq!(told, own, "{size:?}");
         }
     }
 

@@ -21,8 +21,15 @@ pub struct Cycle {
     pub times: usize,
 }
 
-/// The cycles of the proved calls: there are none.
-pub const CYCLES: [Cycle; 0] = [];
+/// The cycles of the proved calls. A chain visits an event, and from there the right event
+/// of each relation that blocks it. A visit goes on only where its event is not open yet, and
+/// opens it: so there are at most as many that go on as there can be events, 64, and below
+/// them one that finds its event open. What the compiler makes a function of its own again,
+/// the visit of a relation, is not in this table, and is then refused as a cycle.
+pub const CYCLES: [Cycle; 1] = [Cycle {
+    functions: &["chain::visiting::visit_event"],
+    times: 65,
+}];
 
 pub struct Program {
     functions: BTreeMap<String, Function>,
@@ -322,6 +329,40 @@ mod tests {
             &VISITS.replace("relation_visit", "visit"),
             &[VISIT]
         ));
+    }
+
+    /// The visit calls itself, by its name or as the start of its own section.
+    #[test]
+    fn the_visit_of_an_event_counts_for_each_event_and_one_more() {
+        for again in [
+            "   5:\tcall   0 <chain::visiting::visit_event>",
+            "   5:\tcall   a <chain::visiting::visit_event+0xa>\n\t\t\t6: R_X86_64_PLT32\t.text.chain::visiting::visit_event-0x4",
+        ] {
+            let text = format!(
+                "0000000000000000 <duty_chain>:
+   0:\tsub    $0x10,%rsp
+   5:\tcall   a <duty_chain+0xa>
+\t\t\t6: R_X86_64_PLT32\tchain::visiting::visit_event-0x4
+0000000000000000 <chain::visiting::visit_event>:
+   0:\tsub    $0x28,%rsp
+{again}
+"
+            );
+            let program = Program::read(&text, &CYCLES).expect("plain code");
+            let (bytes, way) = program.deepest("duty_chain", &[]).expect("in the table");
+            assert_eq!(bytes, 8 + 0x10 + (64 + 1) * (8 + 0x28));
+            let visits = "chain::visiting::visit_event, 65 times";
+            assert_eq!(way, ["duty_chain", visits]);
+            // A relation's visit between them is not in the table.
+            let through = text.replace(
+                again,
+                "\t\t\t6: R_X86_64_PLT32\tchain::visiting::visit_relation-0x4
+0000000000000000 <chain::visiting::visit_relation>:
+\t\t\t6: R_X86_64_PLT32\tchain::visiting::visit_event-0x4",
+            );
+            let program = Program::read(&through, &CYCLES).expect("plain code");
+            assert!(program.deepest("duty_chain", &[]).is_err());
+        }
     }
 
     #[test]
