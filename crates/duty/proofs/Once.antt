@@ -38,6 +38,8 @@ use Rattle.duty.proofs.duty_margin.Kinds as margin-kinds
 use Rattle.duty.proofs.duty_margin.Reads as margin
 use Rattle.duty.proofs.duty_hold_up.Kinds as hold-up-kinds
 use Rattle.duty.proofs.duty_hold_up.Reads as hold-up
+use Rattle.duty.proofs.duty_chain.Kinds as chain-kinds
+use Rattle.duty.proofs.duty_chain.Reads as chain
 use Rattle.duty.proofs.duty_closure.Kinds as closure-kinds
 use Rattle.duty.proofs.duty_closure.Reads as closure
 use Rattle.duty.proofs.duty_check.Kinds as check-kinds
@@ -117,6 +119,10 @@ margin-once κs a one other x y p q = let same = p .0 ∙ sym (q .0) in (same, t
 pub hold-up-once : Agree 4 hold-up-kinds.ps hold-up-kinds.r hold-up.Learnt
     (λ κs one other x y. (one ≡ other) × (x .1 .1 .1 .0 .now ≡ y .1 .1 .1 .0 .now) × (x .1 .1 .1 .1 .0 .now ≡ y .1 .1 .1 .1 .0 .now))
 hold-up-once κs a one other x y p q = let same = p .0 ∙ sym (q .0) in (same, told _ _ same (p .1 .0) (q .1 .0), told _ _ same (p .1 .1) (q .1 .1))
+
+pub chain-once : Agree 4 chain-kinds.ps chain-kinds.r chain.Learnt
+    (λ κs one other x y. (one ≡ other) × (x .1 .1 .1 .0 .now ≡ y .1 .1 .1 .0 .now) × (x .1 .1 .1 .1 .0 .now ≡ y .1 .1 .1 .1 .0 .now))
+chain-once κs a one other x y p q = let same = p .0 ∙ sym (q .0) in (same, told _ _ same (p .1 .0) (q .1 .0), told _ _ same (p .1 .1) (q .1 .1))
 
 pub closure-once : Agree 4 closure-kinds.ps closure-kinds.r closure.Learnt
     (λ κs one other x y. (one ≡ other) × (x .1 .1 .0 .now ≡ y .1 .1 .0 .now) × (x .1 .1 .1 .0 .now ≡ y .1 .1 .1 .0 .now))

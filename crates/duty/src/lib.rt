@@ -28,6 +28,7 @@ ghost use Rattle.rules.specs.Ask.{request, report};
 ghost use Rattle.rules.specs.Time.{dueAnswer, plainTick};
 ghost use Rattle.rules.specs.Margin.{toldMargin};
 ghost use Rattle.rules.specs.HoldUp.{toldHoldUp};
+ghost use Rattle.rules.specs.Chain.{chainAnswer, chainList};
 ghost use Rattle.rules.specs.Closure.{closureAnswer};
 ghost use Rattle.rules.specs.Check.{toldCheck};
 ghost use Rattle.rules.specs.Guard.{caused as causedEvents, guardedTick};
@@ -299,6 +300,35 @@ pub extern "C" fn duty_hold_up(
         *relation = told.relation;
     }
     number
+}
+
+// Every relation that stands in an event's way, into the first places of the list: 256 times its number, and its depth; and how many.
+#[no_mangle]
+pub extern "C" fn duty_chain(
+    table: &[u8],
+    marking: &[u8],
+    event: usize,
+    list: &mut [u16],
+    count: &mut usize,
+) -> u8
+    ensures number { λ r. ⌜ r ≡ (imagesNumber (now (table .entry)) (now (marking .entry))
+        else on chainAnswer (now (table .entry)) (now (marking .entry)) event (length (now (list .entry))) .number) ⌝ }
+    ensures list { λ r. ⌜ now (list .exit) ≡ done r
+        (on chainList (now (table .entry)) (now (marking .entry)) event (now (list .entry))) (now (list .entry)) ⌝ }
+    ensures count { λ r. ⌜ now (count .exit) ≡ done r
+        (on chainAnswer (now (table .entry)) (now (marking .entry)) event (length (now (list .entry))) .count) (now (count .entry)) ⌝ }
+{
+    let read = images::read(table, marking);
+    let t = read.table;
+    let m = read.marking;
+    if read.number == 0 {
+        let answer = chain::chain(t, m, event, list);
+        if answer.number == 0 {
+            *count = answer.count;
+        }
+        return answer.number;
+    }
+    read.number
 }
 
 // The closure and its size, also where the check rejects.

@@ -1,4 +1,4 @@
-// The calls that are lent lists: remedies, the runner over bytes, the station.
+// The calls that are lent lists: remedies, the chain, the runner over bytes, the station.
 use crate::fold;
 use crate::start;
 
@@ -18,6 +18,32 @@ pub extern "C" fn timing_remedies<'a>(
         let mut number = 0u8;
         let stretch = engine::remedies(t, start::stirred(m, sum), preferred, fallback, &mut number);
         sum = fold::taken(fold::taken(sum, number as u64), stretch.len() as u64);
+    }
+    sum
+}
+
+// The last place that is written, or the first where none is.
+fn last_place(list: &[u16], count: usize) -> u64 {
+    let at = if count < 1 { 0 } else { count - 1 };
+    if at < list.len() { list[at] as u64 } else { 0 }
+}
+
+#[no_mangle]
+pub extern "C" fn timing_chain(
+    table: &[u8],
+    marking: &[u8],
+    event: usize,
+    list: &mut [u16],
+    mut times: usize,
+) -> u64 {
+    let t = start::table(table);
+    let m = start::marking(t.events, marking);
+    let mut sum = 1;
+    while times > 0 {
+        times -= 1;
+        let a = chain::chain(t, start::stirred(m, sum), event, list);
+        sum = fold::taken(fold::number(sum, a.number), a.count as u64);
+        sum = fold::taken(sum, last_place(list, a.count));
     }
     sum
 }

@@ -15,6 +15,7 @@ pub fn answer(call: u8, s: &[u8], out: &mut [u8]) -> usize {
         20 => list_calls::run(false, s, out),
         21 => list_calls::run(true, s, out),
         22..=23 => images::answer(call, s, out),
+        24 => list_calls::chain(s, out),
         _ => answer::put_told(out, engine_calls::told(call, s)),
     }
 }

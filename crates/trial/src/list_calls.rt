@@ -1,4 +1,4 @@
-// Calls 19 to 21: the engine's that are lent lists.
+// Calls 19 to 21 and 24: those that are lent lists.
 use rules::Marking;
 use rules::MarkingAnswer;
 use rules::Step;
@@ -101,4 +101,43 @@ pub fn run(over_bytes: bool, s: &[u8], out: &mut [u8]) -> usize {
     );
     answer::put_marking_answer(out, a);
     MARKED as usize + buffer.len()
+}
+
+// More places than a list must have, 256: a shorter one comes to the call too, and is refused there.
+const LINKS: usize = 600;
+
+// As many of a list's places as there is room for.
+fn linked(n: usize) -> usize
+    ensures { λ r. ⌜ r ≤ 600 ⌝ }
+{
+    if n < LINKS { n } else { LINKS }
+}
+
+// The places that a list tells, two bytes each; those it does not have are 0.
+fn links_of(list: &[u8]) -> [u16; LINKS] {
+    let mut links = [0; LINKS];
+    let mut i = 0;
+    while i < LINKS {
+        let low = given::byte_at(list, i * 2) as u16;
+        let high = given::byte_at(list, i * 2 + 1) as u16;
+        links[i] = low + high * 256;
+        i += 1;
+    }
+    links
+}
+
+// The whole list stands behind the number and the count.
+pub fn chain(s: &[u8], out: &mut [u8]) -> usize {
+    let list = given::list_behind(s);
+    let n = linked(list.len() / 2);
+    let mut links = links_of(list);
+    let a = chain::chain(
+        given::table(s),
+        given::marking_behind(s),
+        given::asked(s),
+        &mut links[..n],
+    );
+    let head = answer::put_told(out, told::chain(a));
+    answer::put_places(out, 9, &links[..n]);
+    head + n * 2
 }

@@ -30,6 +30,19 @@ pub fn put_bytes(out: &mut [u8], behind: u16, s: &[u8]) {
     }
 }
 
+// Numbers of two bytes, behind so many bytes of the answer.
+pub fn put_places(out: &mut [u8], behind: u16, places: &[u16]) {
+    let mut at = START + behind as usize;
+    let mut i = 0;
+    while i < places.len() {
+        let place = places[i];
+        bytes::put_byte(out, at, (place % 256) as u8);
+        bytes::put_byte(out, at + 1, (place / 256) as u8);
+        at += 2;
+        i += 1;
+    }
+}
+
 // A buffer's bytes, behind so many of the answer: a call is lent this part of `out` in the buffer's stead. It is empty if `out` is too short.
 pub fn lent<'a>(out: &'a mut [u8], behind: u16, buffer: &[u8]) -> &'a mut [u8] {
     let start = START + behind as usize;

@@ -125,6 +125,11 @@ pub fn asked(s: &[u8]) -> usize {
     number(behind(s)) as usize
 }
 
+// The list behind the event asked about.
+pub fn list_behind(s: &[u8]) -> &[u8] {
+    after(behind(s), 8)
+}
+
 // The first of two lists.
 pub fn first(lists: &[u8]) -> &[u8] {
     before(after(lists, 2), bytes::length_at(lists, 0))

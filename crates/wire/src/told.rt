@@ -1,4 +1,5 @@
 // The answers of a few bytes: two numbers, the first of so many bytes, the second of so many.
+use rules::ChainAnswer;
 use rules::CheckAnswer;
 use rules::EnabledAnswer;
 use rules::HoldUpAnswer;
@@ -94,6 +95,10 @@ pub fn hold_up(a: HoldUpAnswer) -> Told {
         HoldUpAnswer::Excluded => cased(0, 1, 0, 8),
         HoldUpAnswer::Blocked(relation) => cased(0, 2, relation as u64, 8),
     }
+}
+
+pub fn chain(a: ChainAnswer) -> Told {
+    valued(a.number, a.count as u64, 8)
 }
 
 pub fn check(a: CheckAnswer) -> Told {

@@ -16,6 +16,7 @@ use Rattle.rules.specs.Image.{recordBytes, markingImage, writeNumber, writeMark
 use Rattle.rules.specs.Effect.{effect}
 use Rattle.rules.specs.Time.{time, plainTick, plainTickNumber}
 use Rattle.rules.specs.Ask.{request, requestNumber, report, reportNumber}
+use Rattle.rules.specs.Chain.{chain, chainNumber, chainAnswer, placesOf, chainList}
 use Rattle.rules.specs.Check.{check}
 use Rattle.rules.specs.Guard.{guarded, guardedTick}
 use Rattle.rules.specs.Trace.{stepsIn, endOf, answersOf, bytesNumber, runBytes, runBytesAnswers}
@@ -65,15 +66,25 @@ module _ (t : Table) (m : Marking) (h : judged t m ≡ 0) where
   unfolding runBytes
   run-judged steps room = either t (bytesNumber t m steps room) (endOf t m (stepsIn steps)) m (end-judged t m (stepsIn steps) h) h
 
--- the runner's answers are there exactly where the trace is granted
+-- what is written into a list only where a number is 'done', told twice
+told-twice : (number : ℕ) (after before : List ℕ) → done number after before ≡ done number (done number after before) before
+told-twice number after before = go (eqb number 0)
+  where
+    go : (b : Bool) → cond b after before ≡ cond b (cond b after before) before
+    go true = refl
+    go false = refl
+
+-- the runner's answers are there exactly where the trace is granted, and an event's chain where that is
 pub answers-told : (t : Table) (m : Marking) (steps before : List ℕ)
     → runBytesAnswers t m steps before ≡ done (runBytes t m steps (length before) .number) (runBytesAnswers t m steps before) before
 unfolding runBytes runBytesAnswers
-answers-told t m steps before = go (eqb (bytesNumber t m steps (length before)) 0) (answersOf t m (stepsIn steps) ++ drop (length steps / 2) before)
-  where
-    go : (b : Bool) (l : List ℕ) → cond b l before ≡ cond b (cond b l before) before
-    go true l = refl
-    go false l = refl
+answers-told t m steps before =
+    told-twice (bytesNumber t m steps (length before)) (answersOf t m (stepsIn steps) ++ drop (length steps / 2) before) before
+
+pub chain-told : (t : Table) (m : Marking) (e : ℕ) (before : List ℕ)
+    → chainList t m e before ≡ done (chainAnswer t m e (length before) .number) (chainList t m e before) before
+unfolding chainAnswer chainList
+chain-told t m e before = told-twice (chainNumber t m e (length before)) (placesOf (chain t m e) ++ drop (length (chain t m e)) before) before
 
 marking-done : (events : ℕ) (m : Marking) → markingNumberFor events m ≡ 0 → markingNumber m ≡ 0
 unfolding markingNumberFor
