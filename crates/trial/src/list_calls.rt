@@ -114,7 +114,9 @@ fn linked(n: usize) -> usize
 }
 
 // The places that a list tells, two bytes each; those it does not have are 0.
-fn links_of(list: &[u8]) -> [u16; LINKS] {
+fn links_of(list: &[u8]) -> [u16; LINKS]
+    ensures { λ r. ⌜ length r ≡ 600 ⌝ }
+{
     let mut links = [0; LINKS];
     let mut i = 0;
     while i < LINKS {
@@ -127,17 +129,23 @@ fn links_of(list: &[u8]) -> [u16; LINKS] {
 }
 
 // The whole list stands behind the number and the count.
-pub fn chain(s: &[u8], out: &mut [u8]) -> usize {
-    let list = given::list_behind(s);
-    let n = linked(list.len() / 2);
-    let mut links = links_of(list);
+fn chained(s: &[u8], links: &mut [u16], out: &mut [u8]) -> usize
+    requires { ⌜ length (now links) ≤ 600 ⌝ }
+{
     let a = chain::chain(
         given::table(s),
         given::marking_behind(s),
         given::asked(s),
-        &mut links[..n],
+        links,
     );
-    let head = answer::put_told(out, told::chain(a));
-    answer::put_places(out, 9, &links[..n]);
-    head + n * 2
+    answer::put_told(out, told::chain(a));
+    answer::put_places(out, 9, links);
+    9 + 2 * links.len()
+}
+
+pub fn chain(s: &[u8], out: &mut [u8]) -> usize {
+    let list = given::list_behind(s);
+    let n = linked(list.len() / 2);
+    let mut links = links_of(list);
+    chained(s, &mut links[..n], out)
 }

@@ -13,37 +13,29 @@ use Rattle.chain.specs.Laws.Notes.{carried-whole}
 use Rattle.chain.proofs.listing.listed.Statement.{statement}
 use Rattle.chain.proofs.listing.listed.Tie as tie
 
--- src/listing.rt:36:13
 mul-r : tie.Need-mul-r
 mul-r c = search needs
 
--- src/listing.rt:36:13
 element-copy-out-r : tie.Need-element-copy-out-r
 element-copy-out-r c = search needs
 
--- src/listing.rt:38:9
 returns : tie.Need-returns
 returns c =
     let st = c .before .before .before .before in
     rw (chain-excluded (st .args .t) (st .args .t2) (st .args .event) (not-true _ (c .if1 .taken))) (refl, refl)
 
--- src/listing.rt:42:5
 words-requires : tie.Need-words-requires
 words-requires c κs = search needs
 
--- src/listing.rt:47:43
 cast-visit-event : tie.Need-cast-visit-event
 cast-visit-event c = search needs
 
--- src/listing.rt:47:9
 visit-event-requires : tie.Need-visit-event-requires
 visit-event-requires c κs = search needs
 
--- src/listing.rt:30:1
 same-length : tie.Need-same-length
 same-length c = search needs
 
--- src/listing.rt:30:1
 returns-2 : tie.Need-returns-2
 unfolding chain
 returns-2 c =

@@ -118,7 +118,6 @@ ends n c t m words there (suc f) h =
     ∙ ap (λ (o : ℕ). carried (along (t .count) g o) s) (added .adding .ensures)
     ∙ sym (new t m f d e s (sym (added .before .before .has-event .ensures) ∙ added .before .if1 .left) there)
 
--- src/visiting.rt:41:8
 visit-event-has-event-requires : (t : ℕ) → visit-event-lts.Need-has-event-requires (
   has-event-reads.Asked,
   has-event-reads.Learnt,
@@ -129,7 +128,6 @@ visit-event-has-event-requires : (t : ℕ) → visit-event-lts.Need-has-event-re
 ) (visit-event-at t) visit-event.Post visit-event-Inv-loop visit-event-μ-loop
 visit-event-has-event-requires t c κs = search needs
 
--- src/visiting.rt:42:9
 visit-event-returns : (t : ℕ) → visit-event-lts.Need-returns (
   has-event-reads.Asked,
   has-event-reads.Learnt,
@@ -144,7 +142,6 @@ visit-event-returns t c =
       (le-refl _, λ t m words there f h. sym (seen t m f _ _ (stateOf (st .args .w) (st .args .list .now)) (sym (c .before .has-event .ensures) ∙ c .if1 .taken))),
     )
 
--- src/visiting.rt:45:17
 visit-event-adding-requires : (t : ℕ) → visit-event-lts.Need-adding-requires (
   has-event-reads.Asked,
   has-event-reads.Learnt,
@@ -155,7 +152,6 @@ visit-event-adding-requires : (t : ℕ) → visit-event-lts.Need-adding-requires
 ) (visit-event-at t) visit-event.Post visit-event-Inv-loop visit-event-μ-loop
 visit-event-adding-requires t c κs = search needs
 
--- src/visiting.rt:48:22
 visit-event-add-k : (t : ℕ) → visit-event-lts.Need-add-k (
   has-event-reads.Asked,
   has-event-reads.Learnt,
@@ -166,7 +162,6 @@ visit-event-add-k : (t : ℕ) → visit-event-lts.Need-add-k (
 ) (visit-event-at t) visit-event.Post visit-event-Inv-loop visit-event-μ-loop
 visit-event-add-k t c = search needs
 
--- src/visiting.rt:48:17
 visit-event-mul-k : (t : ℕ) → visit-event-lts.Need-mul-k (
   has-event-reads.Asked,
   has-event-reads.Learnt,
@@ -177,7 +172,6 @@ visit-event-mul-k : (t : ℕ) → visit-event-lts.Need-mul-k (
 ) (visit-event-at t) visit-event.Post visit-event-Inv-loop visit-event-μ-loop
 visit-event-mul-k t c = search needs
 
--- src/visiting.rt:48:17
 visit-event-element-copy-out-k : (t : ℕ) → visit-event-lts.Need-element-copy-out-k (
   has-event-reads.Asked,
   has-event-reads.Learnt,
@@ -188,7 +182,6 @@ visit-event-element-copy-out-k : (t : ℕ) → visit-event-lts.Need-element-copy
 ) (visit-event-at t) visit-event.Post visit-event-Inv-loop visit-event-μ-loop
 visit-event-element-copy-out-k t c = search needs
 
--- src/visiting.rt:48:17
 visit-event-cast-k : (t : ℕ) → visit-event-lts.Need-cast-k (
   has-event-reads.Asked,
   has-event-reads.Learnt,
@@ -199,7 +192,6 @@ visit-event-cast-k : (t : ℕ) → visit-event-lts.Need-cast-k (
 ) (visit-event-at t) visit-event.Post visit-event-Inv-loop visit-event-μ-loop
 visit-event-cast-k t c = let st = c .before .before .before .before .before in omega (arith, st .pre .1 .0 .few (256 + st .args .e))
 
--- src/visiting.rt:49:5
 visit-event-loop-holds : (t : ℕ) → visit-event-lts.Need-loop-holds (
   has-event-reads.Asked,
   has-event-reads.Learnt,
@@ -218,7 +210,6 @@ visit-event-loop-holds t c =
           (first .here, λ f h. comes t m f (st .args .depth) (st .args .e) (c .before .adding .result) s s _ first (sym (carried-nothing s))),
     )
 
--- src/visiting.rt:50:9
 visit-event-visit-relation-requires : (t : ℕ) → visit-event-lts.Need-visit-relation-requires (
   has-event-reads.Asked,
   has-event-reads.Learnt,
@@ -236,7 +227,6 @@ visit-event-visit-relation-requires t c κs =
       (st .pre .1 .0, (c .before .loop-test .taken, omega (arith, g, inv .1, st .pre .1 .1 .1))),
     )
 
--- src/visiting.rt:51:13
 visit-event-mul-k-2 : (t : ℕ) → visit-event-lts.Need-mul-k-2 (
   has-event-reads.Asked,
   has-event-reads.Learnt,
@@ -247,7 +237,6 @@ visit-event-mul-k-2 : (t : ℕ) → visit-event-lts.Need-mul-k-2 (
 ) (visit-event-at t) visit-event.Post visit-event-Inv-loop visit-event-μ-loop
 visit-event-mul-k-2 t c = search needs
 
--- src/visiting.rt:51:13
 visit-event-element-copy-out-k-2 : (t : ℕ) → visit-event-lts.Need-element-copy-out-k-2 (
   has-event-reads.Asked,
   has-event-reads.Learnt,
@@ -258,7 +247,6 @@ visit-event-element-copy-out-k-2 : (t : ℕ) → visit-event-lts.Need-element-co
 ) (visit-event-at t) visit-event.Post visit-event-Inv-loop visit-event-μ-loop
 visit-event-element-copy-out-k-2 t c = search needs
 
--- src/visiting.rt:51:13
 visit-event-cast-k-2 : (t : ℕ) → visit-event-lts.Need-cast-k-2 (
   has-event-reads.Asked,
   has-event-reads.Learnt,
@@ -272,7 +260,6 @@ visit-event-cast-k-2 t c =
     let st = here .before .before .before .before .before .before in
     omega (arith, st .pre .1 .0 .few (here .loop .k))
 
--- src/visiting.rt:49:5
 visit-event-loop-less : (t : ℕ) → visit-event-lts.Need-loop-less (
   has-event-reads.Asked,
   has-event-reads.Learnt,
@@ -286,7 +273,6 @@ visit-event-loop-less t c =
     let st = loop .before .before .before .before .before .before .before in
     omega (arith, st .pre .1 .0 .rises (loop .before .loop .k) (loop .loop-test .taken), loop .loop-test .taken)
 
--- src/visiting.rt:49:5
 visit-event-loop-again : (t : ℕ) → visit-event-lts.Need-loop-again (
   has-event-reads.Asked,
   has-event-reads.Learnt,
@@ -318,7 +304,6 @@ visit-event-loop-again t c =
           ),
     )
 
--- src/visiting.rt:23:1
 visit-event-same-length : (t : ℕ) → visit-event-lts.Need-same-length (
   has-event-reads.Asked,
   has-event-reads.Learnt,
@@ -329,7 +314,6 @@ visit-event-same-length : (t : ℕ) → visit-event-lts.Need-same-length (
 ) (visit-event-at t) visit-event.Post visit-event-Inv-loop visit-event-μ-loop
 visit-event-same-length t c = c .before .loop .inv .0
 
--- src/visiting.rt:23:1
 visit-event-returns-2 : (t : ℕ) → visit-event-lts.Need-returns-2 (
   has-event-reads.Asked,
   has-event-reads.Learnt,
@@ -343,49 +327,42 @@ visit-event-returns-2 t c =
     let inv = c .before .loop .inv in
     (inv .0, (omega (arith, g, inv .1), ends t c))
 
--- src/visiting.rt:77:29
 visit-relation-cast-list : (t : ℕ) → visit-relation-lts.Need-cast-list (
   visit-event-below t,
   visit-event.Post,
 ) (visit-relation-at t) visit-relation.Post
 visit-relation-cast-list t c = search needs
 
--- src/visiting.rt:77:23
 visit-relation-mul-list : (t : ℕ) → visit-relation-lts.Need-mul-list (
   visit-event-below t,
   visit-event.Post,
 ) (visit-relation-at t) visit-relation.Post
 visit-relation-mul-list t c = search needs
 
--- src/visiting.rt:77:23
 visit-relation-add-list : (t : ℕ) → visit-relation-lts.Need-add-list (
   visit-event-below t,
   visit-event.Post,
 ) (visit-relation-at t) visit-relation.Post
 visit-relation-add-list t c = search needs
 
--- src/visiting.rt:77:9
 visit-relation-mul-list-2 : (t : ℕ) → visit-relation-lts.Need-mul-list-2 (
   visit-event-below t,
   visit-event.Post,
 ) (visit-relation-at t) visit-relation.Post
 visit-relation-mul-list-2 t c = search needs
 
--- src/visiting.rt:77:9
 visit-relation-slice-write-list : (t : ℕ) → visit-relation-lts.Need-slice-write-list (
   visit-event-below t,
   visit-event.Post,
 ) (visit-relation-at t) visit-relation.Post
 visit-relation-slice-write-list t c = search needs
 
--- src/visiting.rt:78:9
 visit-relation-add-count : (t : ℕ) → visit-relation-lts.Need-add-count (
   visit-event-below t,
   visit-event.Post,
 ) (visit-relation-at t) visit-relation.Post
 visit-relation-add-count t c = search needs
 
--- src/visiting.rt:83:9
 visit-relation-element-copy-out-visit-event :
     (t : ℕ) → visit-relation-lts.Need-element-copy-out-visit-event (
       visit-event-below t,
@@ -393,7 +370,6 @@ visit-relation-element-copy-out-visit-event :
     ) (visit-relation-at t) visit-relation.Post
 visit-relation-element-copy-out-visit-event t c = search needs
 
--- src/visiting.rt:84:9
 visit-relation-add-visit-event : (t : ℕ) → visit-relation-lts.Need-add-visit-event (
   visit-event-below t,
   visit-event.Post,
@@ -401,7 +377,6 @@ visit-relation-add-visit-event : (t : ℕ) → visit-relation-lts.Need-add-visit
 visit-relation-add-visit-event t c =
     let st = c .before .before .before in omega (arith, size-small (st .args .w .opened), st .pre .1 .1 .1)
 
--- src/visiting.rt:80:5
 visit-relation-visit-event-requires : (t : ℕ) → visit-relation-lts.Need-visit-event-requires (
   visit-event-below t,
   visit-event.Post,
@@ -410,7 +385,6 @@ visit-relation-visit-event-requires t c κs =
     let st = c .before .before .before .before in
     (omega (arith, st .pre .0), (st .pre .1 .0, (st .pre .1 .0 .events (st .args .k), st .pre .1 .1 .1)))
 
--- src/visiting.rt:57:1
 visit-relation-same-length : (t : ℕ) → visit-relation-lts.Need-same-length (
   visit-event-below t,
   visit-event.Post,
@@ -420,7 +394,6 @@ visit-relation-same-length t c =
     let joined = came .before .before .before in
     came .visit-event .ensures .0 ∙ ⊎-elim (λ w. ap length (w .1) ∙ length-set (joined .before .before .args .list .now) (joined .before .before .args .w .count) _) (λ w. ap length (w .1)) (joined .if1 .came)
 
--- src/visiting.rt:57:1
 visit-relation-returns : (t : ℕ) → visit-relation-lts.Need-returns (
   visit-event-below t,
   visit-event.Post,

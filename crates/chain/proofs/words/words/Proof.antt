@@ -12,9 +12,6 @@ use Rattle.chain.specs.Words.{Words, WordsFrom}
 use Rattle.chain.specs.Laws.Filling.{starts, begun, passed-words, passed, linked-words, blocked}
 use Rattle.chain.proofs.words.words.Statement.{statement}
 use Rattle.chain.proofs.words.words.Tie as tie
-use Rattle.chain.proofs.words.words.Reads as reads
-use Rattle.chain.proofs.words.words.Lts as lts
-use Rattle.acts.proofs.blocking.stops.Reads as stops-reads
 
 before-last : {i : ℕ} → 0 < i → i ≡ suc (i - 1)
 before-last b = omega (arith, b)
@@ -34,7 +31,6 @@ left-few c =
     let used : here .loop .i - 1 < here .before .args .t1 .count = omega (arith, here .loop .inv .0) in
     omega (arith, table .relations-good (here .loop .i - 1) used .left-exists, table .few-events)
 
--- src/words.rt:18:5
 loop-holds : tie.Need-loop-holds Inv-loop μ-loop
 loop-holds c =
     let a = c .args in
@@ -46,79 +42,60 @@ loop-holds c =
           (starts (a .t1) (a .t2) (c .pre .0 .table-good .few-relations))),
     )
 
--- src/words.rt:19:9
 sub-i : tie.Need-sub-i Inv-loop μ-loop
 sub-i c = search needs
 
--- src/words.rt:20:17
 mul-k : tie.Need-mul-k Inv-loop μ-loop
 mul-k c = search needs
 
--- src/words.rt:20:17
 element-copy-out-k : tie.Need-element-copy-out-k Inv-loop μ-loop
 element-copy-out-k c = search needs
 
--- src/words.rt:21:17
 cast-x : tie.Need-cast-x Inv-loop μ-loop
 cast-x c = search needs
 
--- src/words.rt:22:17
 mul-r : tie.Need-mul-r Inv-loop μ-loop
 mul-r c = search needs
 
--- src/words.rt:22:17
 element-copy-out-r : tie.Need-element-copy-out-r Inv-loop μ-loop
 element-copy-out-r c = right-told (c .before .before .before .before .pre .0 .table-good) _ (omega arith)
 
--- src/words.rt:23:9
 element-write-rights : tie.Need-element-write-rights Inv-loop μ-loop
 element-write-rights c = search needs
 
--- src/words.rt:24:12
 stops-requires : tie.Need-stops-requires Inv-loop μ-loop
 stops-requires c κs = search needs
 
--- src/words.rt:25:31
 cast-first : tie.Need-cast-first Inv-loop μ-loop
 cast-first c = search needs
 
--- src/words.rt:25:25
 add-first : tie.Need-add-first Inv-loop μ-loop
 add-first c = search needs
 
--- src/words.rt:26:23
 mul-next : tie.Need-mul-next Inv-loop μ-loop
 mul-next c = search needs
 
--- src/words.rt:26:23
 element-copy-out-next : tie.Need-element-copy-out-next Inv-loop μ-loop
 element-copy-out-next c = omega (arith, left-few (c .before .before))
 
--- src/words.rt:26:13
 mul-next-2 : tie.Need-mul-next-2 Inv-loop μ-loop
 mul-next-2 c = search needs
 
--- src/words.rt:26:13
 element-write-next : tie.Need-element-write-next Inv-loop μ-loop
 element-write-next c = search needs
 
--- src/words.rt:27:27
 cast-next : tie.Need-cast-next Inv-loop μ-loop
 cast-next c = search needs
 
--- src/words.rt:27:13
 mul-next-3 : tie.Need-mul-next-3 Inv-loop μ-loop
 mul-next-3 c = search needs
 
--- src/words.rt:27:13
 element-write-next-2 : tie.Need-element-write-next-2 Inv-loop μ-loop
 element-write-next-2 c = omega (arith, left-few (c .before .before .before))
 
--- src/words.rt:18:5
 loop-less : tie.Need-loop-less Inv-loop μ-loop
 loop-less c = search needs
 
--- src/words.rt:18:5
 loop-again : tie.Need-loop-again Inv-loop μ-loop
 loop-again c =
     let stopped = c .before .before .before in
@@ -134,11 +111,9 @@ loop-again c =
       blocked (a .t1) (a .t2) table j used (here .loop .next) (here .loop .rights) (inv .1) from (sym (stopped .stops .ensures) ∙ c .before .before .if1 .taken),
     )
 
--- src/words.rt:18:5
 loop-less-2 : tie.Need-loop-less-2 Inv-loop μ-loop
 loop-less-2 c = search needs
 
--- src/words.rt:18:5
 loop-again-2 : tie.Need-loop-again-2 Inv-loop μ-loop
 loop-again-2 c =
     let stopped = c .before in
@@ -154,7 +129,6 @@ loop-again-2 c =
       passed (a .t1) (a .t2) table j used (here .loop .next) (here .loop .rights) (inv .1) from (sym (stopped .stops .ensures) ∙ c .if1 .left),
     )
 
--- src/words.rt:11:1
 returns : tie.Need-returns Inv-loop μ-loop
 returns c =
     let here = c .before in
