@@ -3,31 +3,19 @@
 
 use crate::figures::{stack, Section};
 
-const KIB: u64 = 1024;
-
-/// Of the calls for C, in KiB: of each of them, and of the one that is excepted. That one
-/// visits events by recursion, with a part of the stack for each event that there can be.
-pub const FOR_C: u64 = 24;
-pub const OF_CHAIN: u64 = 32;
-
 /// The calls that are meant, where a star is any ending, and how many bytes each of
-/// them may take at most. A call that stands here by its whole name is not meant by a star.
-const CEILINGS: [(&str, u64); 5] = [
-    ("duty_*", FOR_C * KIB),
-    ("duty_chain", OF_CHAIN * KIB),
-    ("chain", 26 * KIB),
-    ("check", 14 * KIB),
-    ("closure", 11 * KIB),
+/// them may take at most.
+const CEILINGS: [(&str, u64); 4] = [
+    ("duty_*", 24 * 1024),
+    ("chain", 26 * 1024),
+    ("check", 14 * 1024),
+    ("closure", 11 * 1024),
 ];
 
-fn excepted(name: &str) -> bool {
-    CEILINGS.iter().any(|(calls, _)| *calls == name)
-}
-
 fn meant(calls: &str, name: &str) -> bool {
-    calls.strip_suffix('*').map_or(calls == name, |start| {
-        name.starts_with(start) && !excepted(name)
-    })
+    calls
+        .strip_suffix('*')
+        .map_or(calls == name, |start| name.starts_with(start))
 }
 
 /// What is wrong by one ceiling. One that no call has is wrong too: its calls were
@@ -62,7 +50,6 @@ run_bytes | 30000
 check_all | 30000
 duty_run | 24576
 duty_size | 8
-duty_chain | 32768
 chain | 26624
 check | 14336
 closure | 11264
@@ -93,11 +80,6 @@ closure | 11264
                 "duty_size: 24577 is above the ceiling of 24576",
             ),
             (
-                "32768",
-                "32769",
-                "duty_chain: 32769 is above the ceiling of 32768",
-            ),
-            (
                 "26624",
                 "26625",
                 "chain: 26625 is above the ceiling of 26624",
@@ -115,15 +97,6 @@ closure | 11264
         ] {
             assert_eq!(told(from, to), [format!("stack: {fault}")]);
         }
-    }
-
-    /// A call whose name only begins so is one of the others.
-    #[test]
-    fn one_call_for_c_alone_is_excepted() {
-        let fault = "stack: duty_chains: 24577 is above the ceiling of 24576";
-        assert_eq!(told("duty_size | 8", "duty_chains | 24577"), [fault]);
-        let fault = "stack: duty_chain has a ceiling and is not measured";
-        assert_eq!(told("duty_chain | 32768\n", ""), [fault]);
     }
 
     #[test]

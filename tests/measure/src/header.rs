@@ -1,15 +1,13 @@
 //! The stack that the header for C tells, held to what is measured. It stands in the
 //! header's first comment, in the paragraph `Stack.`, on the lines that begin with a
 //! call: calls and their bytes in turn, `duty_run 31,200`, or several calls of the
-//! same bytes, `duty_size, duty_lowest 8`. Before them a sentence tells the ceilings:
-//! what none takes more than, and what the one call takes at most that is excepted.
+//! same bytes, `duty_size, duty_lowest 8`.
 
-use crate::ceilings::{FOR_C, OF_CHAIN};
 use crate::figures::{stack, Section};
 use std::collections::BTreeMap;
 
 /// What the name of each call for C begins with.
-const PREFIX: &str = "duty_";
+const FOR_C: &str = "duty_";
 
 /// The paragraph's lines, without the comment's stars.
 fn paragraph(header: &str) -> impl Iterator<Item = &str> {
@@ -38,7 +36,7 @@ fn number(word: &str) -> Option<u64> {
 /// A call's name, and whether another one with the same bytes comes behind it.
 fn call(word: &str) -> Result<(&str, bool), String> {
     let name = word.strip_suffix(',').unwrap_or(word);
-    if !name.starts_with(PREFIX) {
+    if !name.starts_with(FOR_C) {
         return Err(format!("header: {word} stands where a call is to be told"));
     }
     Ok((name, name != word))
@@ -49,7 +47,7 @@ fn told(header: &str) -> Result<BTreeMap<&str, u64>, String> {
     let mut told = BTreeMap::new();
     // The calls whose bytes are to come, and whether another call comes before them.
     let (mut calls, mut another) = (Vec::new(), true);
-    let lines = paragraph(header).filter(|line| line.starts_with(PREFIX));
+    let lines = paragraph(header).filter(|line| line.starts_with(FOR_C));
     for word in lines.flat_map(str::split_whitespace) {
         if another {
             let (name, more) = call(word)?;
@@ -84,22 +82,12 @@ fn by_one(told: &BTreeMap<&str, u64>, call: &str, bytes: u64) -> Option<String> 
     ))
 }
 
-/// The sentence of the ceilings, however it is broken into lines.
-fn without_ceilings(header: &str) -> Option<String> {
-    let words: Vec<&str> = paragraph(header).flat_map(str::split_whitespace).collect();
-    let sentence = format!(
-        "None takes more than {FOR_C} KiB but duty_chain, which takes at most {OF_CHAIN} KiB"
-    );
-    let told = words.join(" ").contains(&sentence);
-    (!told).then(|| format!("header: it does not tell: {sentence}"))
-}
-
 /// What is wrong with what the header tells, where the stack is measured.
 pub fn faults(header: &str, measured: &[Section]) -> Vec<String> {
     let Some(mut rows) = stack(measured) else {
         return Vec::new();
     };
-    rows.retain(|row| row.0.starts_with(PREFIX));
+    rows.retain(|row| row.0.starts_with(FOR_C));
     let mut told = match told(header) {
         Ok(told) => told,
         Err(fault) => return vec![fault],
@@ -111,7 +99,6 @@ pub fn faults(header: &str, measured: &[Section]) -> Vec<String> {
         told.keys()
             .map(|call| format!("header: {call} is told and not measured")),
     );
-    faults.extend(without_ceilings(header));
     faults
 }
 
@@ -125,8 +112,7 @@ mod tests {
  * Answers. duty_judge 1 of them
  *
  * Stack. Bytes at most, 64 of them at least, as
- * measured: with duty_old 9 it was more. None takes more than 24 KiB but duty_chain,
- * which takes at most 32 KiB: it recurses.
+ * measured: with duty_old 9 it was more.
  *     duty_run 1,031,200    duty_check 27,248
  *     duty_fresh 999        duty_size, duty_lowest 8
  *
@@ -177,27 +163,7 @@ duty_size | 8
         assert_eq!(changed("999", "999 duty_due 7"), [fault]);
         // A call of Rattle's own is none of the header's.
         assert_eq!(changed("duty_check 27,248", "check 100").len(), 1);
-        assert_eq!(changed("Stack.", "Heap.").len(), 5 + 1);
-    }
-
-    #[test]
-    fn the_ceilings_are_told() {
-        let fault = "header: it does not tell: None takes more than 24 KiB but duty_chain, \
-                     which takes at most 32 KiB";
-        for (from, to) in [
-            ("24 KiB", "25 KiB"),
-            ("32 KiB", "31 KiB"),
-            ("but duty_chain", "but duty_run"),
-            ("None takes", "Some take"),
-        ] {
-            assert_eq!(changed(from, to), [fault]);
-        }
-        // A line that begins with a call tells its bytes.
-        let fault = "header: which stands where a call is to be told";
-        assert_eq!(
-            changed(" duty_chain,\n * which", "\n * duty_chain, which"),
-            [fault]
-        );
+        assert_eq!(changed("Stack.", "Heap.").len(), 5);
     }
 
     #[test]
@@ -258,6 +224,5 @@ duty_size | 8
         let header = include_str!("../../../include/duty.h");
         let told = told(header).expect("calls and bytes");
         assert_eq!(told.into_keys().collect::<BTreeSet<_>>(), declared(header));
-        assert_eq!(without_ceilings(header), None);
     }
 }

@@ -14,11 +14,13 @@ struct Function {
     calls: Vec<String>,
 }
 
-/// Functions that call each other, and how many calls of each may be open at once.
+/// Functions that call each other, how many calls of each may be open at once, and how
+/// many bytes one of them may take.
 #[derive(Clone, Copy)]
 pub struct Cycle {
     pub functions: &'static [&'static str],
     pub times: usize,
+    pub frame: usize,
 }
 
 /// The cycles of the proved calls. A chain visits an event, and from there the right event
@@ -29,6 +31,7 @@ pub struct Cycle {
 pub const CYCLES: [Cycle; 1] = [Cycle {
     functions: &["chain::visiting::visit_event"],
     times: 65,
+    frame: 140,
 }];
 
 pub struct Program {
@@ -163,6 +166,12 @@ impl Program {
         let (mut own, mut below) = (0, (0, Vec::new()));
         for name in names {
             let function = self.function(name)?;
+            if let Some(most) = cycle.map(|c| c.frame).filter(|most| function.own > *most) {
+                let taken = function.own;
+                return Err(format!(
+                    "{name} takes {taken} bytes again and again: {most} at most"
+                ));
+            }
             own += times * function.own;
             for called in &function.calls {
                 let within = cycle.is_some_and(|c| c.functions.contains(&called.as_str()));
@@ -292,6 +301,7 @@ mod tests {
     const VISIT: Cycle = Cycle {
         functions: &["event_visit", "relation_visit"],
         times: 64,
+        frame: 8 + 0x40,
     };
 
     #[test]
@@ -302,6 +312,14 @@ mod tests {
         assert_eq!(bytes, 8 + 0x10 + visits + 8 + 0x100);
         let both = "event_visit and relation_visit, 64 times";
         assert_eq!(way, ["duty_chain", both, "large"]);
+    }
+
+    #[test]
+    fn what_is_taken_again_and_again_is_small() {
+        let program = Program::read(&VISITS.replace("$0x40", "$0x41"), &[VISIT]);
+        let refused = program.expect("plain code").deepest("duty_chain", &[]);
+        let fault = "relation_visit takes 73 bytes again and again: 72 at most";
+        assert_eq!(refused.expect_err("too much"), fault);
     }
 
     #[test]

@@ -144,13 +144,9 @@ mod tests {
 check | 14000
 closure | 11000
 chain | 26000
-duty_chain | 32000
 duty_run | 24000
 ";
-    const TELLS: &str = "/*
- * Stack. None takes more than 24 KiB but duty_chain, which takes at most 32 KiB:
- * duty_chain 32,000 duty_run 24,000
- */";
+    const TELLS: &str = "/*\n * Stack. Bytes:\n * duty_run 24,000\n */";
 
     fn figures(text: &str) -> Vec<Section> {
         read(text).expect("figures")
