@@ -4,7 +4,7 @@ use acts::blocking::stops;
 use rules::Marking;
 use rules::Table;
 ghost use mathlib.Core.Path.{_≡_};
-ghost use lib.ListN.{length, replicate};
+ghost use lib.ListN.{replicate};
 ghost use Rattle.rules.specs.Shapes.Good.{Good};
 ghost use Rattle.chain.specs.Words.{Words, WordsOf};
 

@@ -3,7 +3,7 @@
 use mathlib.Core.Path.{_≡_, sym, ap, _∙_}
 use Prim.Native.Nat.{ℕ}
 use Rattle.rules.specs.Numbers.{done}
-use Rattle.engine.proofs.Lent.{Agree}
+use Rattle.image.proofs.Promises.{Agree}
 use Rattle.duty.proofs.duty_judge.Kinds as judge-kinds
 use Rattle.duty.proofs.duty_judge.Reads as judge
 use Rattle.duty.proofs.duty_fresh.Kinds as fresh-kinds

@@ -2,14 +2,12 @@
 -- same arguments, are equal. Of a stretch that is handed back, its bytes and its place. It is stated about the contract itself: as the check
 -- reads it, and of the runner over steps, as it stands. Assumes nothing.
 use mathlib.Core.Path.{_≡_, sym, _∙_}
-use mathlib.Core.List.{List}
-use Prim.Native.Nat.{ℕ}
 use base.Logic.{ent, sep, fst∗, snd∗}
 use contract.Lifetimes.{Lfts}
 use contract.Monad.{fact, factI, fact-use}
 use denote.Triple.Clauses.{AtExit}
-use borrow.Fn.Kinds.{PK, RK, Out, Dens, resT, endedOf}
 use borrow.Fn.World.{World, Pr, ArgsD, ResD}
+use Rattle.image.proofs.Promises.{Agree}
 use Rattle.engine.proofs.remedies.Kinds as remedies-kinds
 use Rattle.engine.proofs.remedies.Reads as remedies
 use Rattle.engine.proofs.run_bytes.Kinds as run-bytes-kinds
@@ -17,13 +15,6 @@ use Rattle.engine.proofs.run_bytes.Reads as run-bytes
 use Rattle.engine.proofs.run as run
 use Rattle.engine.proofs.station.Kinds as station-kinds
 use Rattle.engine.proofs.station.Reads as station
-
--- two runs of a call, of the same arguments, that both keep its promise agree
-abbrev pub Agree : (n : ℕ) (ps : List (PK n)) (r : RK n) (promise : Out n ps r)
-    → ((κs : Lfts n) → resT r κs .Denot → resT r κs .Denot → AtExit (endedOf n ps r) κs → AtExit (endedOf n ps r) κs → Type 0) → Type 0
-Agree n ps r promise Same =
-    (κs : Lfts n) (a : Dens κs ps) (one other : resT r κs .Denot) (x y : AtExit (endedOf n ps r) κs)
-    → promise κs a one x → promise κs a other y → Same κs one other x y
 
 pub run-bytes-once : Agree 2 run-bytes-kinds.ps run-bytes-kinds.r run-bytes.Learnt
     (λ κs one other x y. (one ≡ other) × (x .1 .1 .1 .0 .now ≡ y .1 .1 .1 .0 .now))

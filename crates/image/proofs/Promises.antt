@@ -37,11 +37,16 @@ use Rattle.image.proofs.judge_table.Reads as judge-table
 use Rattle.image.proofs.judge_marking.Kinds as judge-marking-kinds
 use Rattle.image.proofs.judge_marking.Reads as judge-marking
 
+-- two runs of a call, of the same arguments, that both keep its promise agree
+abbrev pub Agree : (n : ℕ) (ps : List (PK n)) (r : RK n) (promise : Out n ps r)
+    → ((κs : Lfts n) → resT r κs .Denot → resT r κs .Denot → AtExit (endedOf n ps r) κs → AtExit (endedOf n ps r) κs → Type 0) → Type 0
+Agree n ps r promise Same =
+    (κs : Lfts n) (a : Dens κs ps) (one other : resT r κs .Denot) (x y : AtExit (endedOf n ps r) κs)
+    → promise κs a one x → promise κs a other y → Same κs one other x y
+
 -- two answers to the same arguments are one
 abbrev pub OneAnswer : (n : ℕ) (ps : List (PK n)) (r : RK n) → Out n ps r → Type 0
-OneAnswer n ps r promise =
-    (κs : Lfts n) (a : Dens κs ps) (one other : resT r κs .Denot) (x y : AtExit (endedOf n ps r) κs)
-    → promise κs a one x → promise κs a other y → one ≡ other
+OneAnswer n ps r promise = Agree n ps r promise (λ κs one other x y. one ≡ other)
 
 pub read-table-once : OneAnswer 1 read-table-kinds.ps read-table-kinds.r read-table.Learnt
 read-table-once κs a one other x y p q = p ∙ sym q

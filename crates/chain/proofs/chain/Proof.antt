@@ -6,7 +6,6 @@ use borrow.Author.Tests.{ne-eqb, ltb-false}
 use borrow.Author.Needs.{needs}
 use lib.Dec.{ltb}
 use lib.ListN.{length}
-use Rattle.rules.specs.declared.ChainAnswer.{ChainAnswer}
 use Rattle.rules.specs.Numbers.{_if_, _else_}
 use Rattle.rules.specs.Holds.{mostRelations}
 use Rattle.rules.specs.Judge.{judged, eventNumber}

@@ -1,6 +1,6 @@
 -- The pass that makes the words, from the last relation to the first. Assumes nothing.
-use mathlib.Core.Path.{_≡_, refl, sym, ap, _∙_, subst}
-use mathlib.Core.Bool.{Bool, true, false, _&&_}
+use mathlib.Core.Path.{_≡_, sym, ap, _∙_, subst}
+use mathlib.Core.Bool.{Bool, true, false}
 use mathlib.Core.List.{List}
 use mathlib.Core.Logic.{_⊎_, ⊎-elim, inl, inr}
 use Prim.Native.Nat.{ℕ, suc, _+_, _<_, _≤_}

@@ -1,5 +1,5 @@
 -- Judged first; where nothing is due the clock moves on, and the marking that the words then stand for is given back. Assumes nothing.
-use mathlib.Core.Path.{_≡_, _∙_, ap, sym, refl}
+use mathlib.Core.Path.{_≡_, _∙_, sym, refl}
 use native.Mathlib.Omega.{arith}
 use borrow.Author.Needs.{needs}
 use Rattle.rules.specs.Judge.{judged}

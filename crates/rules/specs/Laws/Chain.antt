@@ -10,12 +10,11 @@ use lib.ListN.{length}
 use borrow.Author.Tests.{eqb-true, eq-eqb, lt-ltb, le-ltb, ltb-true}
 use Rattle.rules.specs.declared.Table.{Table}
 use Rattle.rules.specs.declared.Marking.{Marking}
-use Rattle.rules.specs.declared.HoldUpAnswer.{HoldUpAnswer}
-use Rattle.rules.specs.declared.HoldUpAnswer.the-variants.{Refused, Enabled, EnabledUnless, Excluded, Blocked}
+use Rattle.rules.specs.declared.HoldUpAnswer.the-variants.{Enabled, EnabledUnless, Excluded, Blocked}
 use Rattle.rules.specs.Counting.{lowest}
 use Rattle.rules.specs.EventSet.{has, withEvent, setOf}
-use Rattle.rules.specs.Numbers.{_else_, holdUpInNumbers}
-use Rattle.rules.specs.Holds.{mostEvents, mostRelations, relationOf, recordOf}
+use Rattle.rules.specs.Numbers.{holdUpInNumbers}
+use Rattle.rules.specs.Holds.{mostEvents, relationOf, recordOf}
 use Rattle.rules.specs.Judge.{judged, eventNumber}
 use Rattle.rules.specs.Enabled.{blocks}
 use Rattle.rules.specs.HoldUp.{holdUpOf, holdUp, wouldBlock}

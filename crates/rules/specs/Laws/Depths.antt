@@ -2,12 +2,12 @@
 -- and the event's own are all d deep: below it is opened already, so that none of its relations is listed there.
 use mathlib.Core.Path.{_≡_, refl, _∙_, ap, sym, subst}
 use mathlib.Core.Bool.{Bool, true, false, not, _||_, cond}
-use mathlib.Core.List.{List, [], _∷_, _++_}
+use mathlib.Core.List.{List, [], _++_}
 use mathlib.Core.Logic.{_⊎_, ⊎-elim, inl, inr}
 use Prim.Native.Nat.{ℕ, zero, suc, _<_, _≤_, _+_, _-_}
 use native.Mathlib.Omega.{arith}
-use lib.Dec.{eqb, ltb}
-use lib.ListN.{length, getD, length-append, List·getD-append}
+use lib.Dec.{ltb}
+use lib.ListN.{length, length-append, List·getD-append}
 use lib.Seq.{getD-append-add}
 use borrow.Author.Tests.{eq-eqb, ltb-true, ltb-false}
 use Rattle.rules.specs.declared.Table.{Table}
@@ -15,7 +15,7 @@ use Rattle.rules.specs.declared.Marking.{Marking}
 use Rattle.rules.specs.EventSet.{has, withEvent}
 use Rattle.rules.specs.Holds.{relationOf, recordOf}
 use Rattle.rules.specs.Enabled.{blocks}
-use Rattle.rules.specs.Chain.{Link, Visit, link, nothing, ledTo, along, visit, linkAt, leftAt, LedTo}
+use Rattle.rules.specs.Chain.{Link, Visit, link, nothing, ledTo, along, visit, linkAt, LedTo}
 use Rattle.rules.specs.Shapes.Good.{GoodTable}
 use Rattle.rules.specs.Laws.Tests.{clash, denied, not-true, or-right}
 use Rattle.rules.specs.Laws.Counting.{many-lt}

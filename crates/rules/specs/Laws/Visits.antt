@@ -1,8 +1,8 @@
 -- What a visit leaves, whatever is opened before it: each relation that it lists blocks an event that it opens, of each event that it opens all
 -- blocking relations are listed, none twice; and what it opens is reached.
 use mathlib.Core.Path.{_≡_, refl, _∙_, ap, sym, subst}
-use mathlib.Core.Bool.{Bool, true, false, not, _&&_, _||_, cond}
-use mathlib.Core.List.{List, [], _∷_, _++_}
+use mathlib.Core.Bool.{Bool, true, false, not, _||_, cond}
+use mathlib.Core.List.{[], _++_}
 use mathlib.Core.Logic.{_⊎_, ⊎-elim}
 use Prim.Native.Nat.{ℕ, zero, suc, _<_, _≤_}
 use native.Mathlib.Omega.{arith}
@@ -14,7 +14,7 @@ use Rattle.rules.specs.Counting.{howMany}
 use Rattle.rules.specs.EventSet.{has, withEvent}
 use Rattle.rules.specs.Holds.{relationOf, recordOf}
 use Rattle.rules.specs.Enabled.{stops, blocks}
-use Rattle.rules.specs.Chain.{Link, Visit, nothing, ledTo, along, visit, listed}
+use Rattle.rules.specs.Chain.{Visit, nothing, ledTo, along, visit, listed}
 use Rattle.rules.specs.Shapes.Good.{GoodTable}
 use Rattle.rules.specs.Laws.Tests.{clash, denied, affirmed, decide, both, either, join, not-true, or-left, or-right, last-or-below}
 use Rattle.rules.specs.Laws.Counting.{many-mono, many-lt}

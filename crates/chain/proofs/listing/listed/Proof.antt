@@ -1,14 +1,13 @@
 -- An excluded event has no chain; of any other the visit over the words is the whole of it. Assumes nothing.
-use mathlib.Core.Path.{_≡_, refl, sym, ap, _∙_}
-use mathlib.Core.List.{_++_}
-use Prim.Native.Nat.{ℕ, _≤_, _+_}
+use mathlib.Core.Path.{refl, ap, _∙_}
+use Prim.Native.Nat.{_≤_, _+_}
 use native.Mathlib.Omega.{arith}
 use borrow.Author.Needs.{needs}
-use lib.ListN.{length, drop}
-use Rattle.rules.specs.Chain.{chain, visit, placesOf}
+use lib.ListN.{length}
+use Rattle.rules.specs.Chain.{chain, visit}
 use Rattle.rules.specs.Laws.Tests.{not-true, not-false}
 use Rattle.rules.specs.Laws.Chain.{chain-fits, chain-excluded}
-use Rattle.chain.specs.Words.{State, stateOf}
+use Rattle.chain.specs.Words.{State}
 use Rattle.chain.specs.Laws.Notes.{carried-whole}
 use Rattle.chain.proofs.listing.listed.Statement.{statement}
 use Rattle.chain.proofs.listing.listed.Tie as tie

@@ -1,7 +1,7 @@
 -- The relation visit notes and hands on; the event visit opens, and goes from one blocking relation to the next; what is left to open falls.
 -- Assumes nothing.
 use mathlib.Core.Path.{_≡_, refl, sym, ap, ap₂, subst, _∙_}
-use mathlib.Core.Bool.{Bool, true, false}
+use mathlib.Core.Bool.{true}
 use mathlib.Core.List.{List}
 use mathlib.Core.Logic.{⊎-elim}
 use Prim.Native.Nat.{ℕ, zero, suc, _<_, _≤_, _+_, _-_, _*_}
@@ -9,16 +9,15 @@ use native.Mathlib.Nat.{le-refl, le-trans}
 use native.Mathlib.Numerals.{add-one}
 use native.Mathlib.Omega.{arith}
 use borrow.Author.Needs.{needs}
-use lib.ListN.{length, getD, set, length-set}
+use lib.ListN.{length, set, length-set}
 use Rattle.rules.specs.declared.Table.{Table}
 use Rattle.rules.specs.declared.Marking.{Marking}
-use Rattle.rules.specs.EventSet.{has, sizeOf, withEvent}
+use Rattle.rules.specs.EventSet.{sizeOf}
 use Rattle.rules.specs.Holds.{relationOf, recordOf}
 use Rattle.rules.specs.Enabled.{blocks}
-use Rattle.rules.specs.Chain.{Visit, link, nothing, ledTo, along, visit, placeOf}
+use Rattle.rules.specs.Chain.{link, nothing, along, visit}
 use Rattle.rules.specs.Laws.Visits.{blocks-right}
-use Rattle.chain.specs.declared.visiting.Walk.{Walk}
-use Rattle.chain.specs.Words.{WordsOf, State, stateOf, step, noted, carried}
+use Rattle.chain.specs.Words.{WordsOf, stateOf, step, carried}
 use Rattle.chain.specs.Laws.Notes.{note, full, carried-nothing, carried-opened}
 use Rattle.chain.specs.Laws.Visiting.{size-grows, size-small, seen, new, Come, comes, goes-on, led}
 use borrow.Fn.Kinds.{In}
@@ -383,7 +382,7 @@ visit-relation-visit-event-requires : (t : ℕ) → visit-relation-lts.Need-visi
 ) (visit-relation-at t) visit-relation.Post
 visit-relation-visit-event-requires t c κs =
     let st = c .before .before .before .before in
-    (omega (arith, st .pre .0), (st .pre .1 .0, (st .pre .1 .0 .events (st .args .k), st .pre .1 .1 .1)))
+    (omega (arith, st .pre .0), (st .pre .1 .0, (st .pre .1 .0 .events (st .args .k), omega (arith, st .pre .1 .1 .1))))
 
 visit-relation-same-length : (t : ℕ) → visit-relation-lts.Need-same-length (
   visit-event-below t,

@@ -1,12 +1,11 @@
 -- The loop's invariant: the words tell of the relations from i on. Assumes nothing.
-use mathlib.Core.Path.{_≡_, refl, sym, ap, _∙_, subst}
-use mathlib.Core.Bool.{true, false}
+use mathlib.Core.Path.{_≡_, sym, _∙_, subst}
 use mathlib.Core.List.{List}
-use Prim.Native.Nat.{ℕ, suc, _<_, _≤_, _+_, _-_}
+use Prim.Native.Nat.{ℕ, suc, _<_, _≤_, _-_}
 use native.Mathlib.Omega.{arith}
 use borrow.Author.Needs.{needs}
-use lib.ListN.{length, getD, set, replicate}
-use Rattle.rules.specs.Holds.{relationOf, recordOf}
+use lib.ListN.{replicate}
+use Rattle.rules.specs.Holds.{relationOf}
 use Rattle.rules.specs.Laws.Granted.{right-told}
 use Rattle.chain.specs.Words.{Words, WordsFrom}
 use Rattle.chain.specs.Laws.Filling.{starts, begun, passed-words, passed, linked-words, blocked}
