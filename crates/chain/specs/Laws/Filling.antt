@@ -85,7 +85,10 @@ module _ (t : Table) (m : Marking) (good : GoodTable t) (j : ℕ) (used : j < t 
   told-right : (k : ℕ) → j ≤ k → k < t .count → getD told k 0 ≡ relationOf t k .right
   told-right k le b =
       ⊎-elim
-      (λ (z : k ≡ j). ap (λ (n : ℕ). getD told n 0) z ∙ getD-set-same rights j right 0 (omega (arith, few, words .rights-size)) ∙ ap (λ (n : ℕ). relationOf t n .right) (sym z))
+      (λ (z : k ≡ j).
+      ap (λ (n : ℕ). getD told n 0) z
+      ∙ getD-set-same rights j right 0 (omega (arith, few, words .rights-size))
+      ∙ ap (λ (n : ℕ). relationOf t n .right) (sym z))
       (λ (n : k ≡ j → ⊥). getD-set-other rights j k right 0 n ∙ from .rights-told k (past le n) b)
       (same-or-not k j)
 
@@ -99,7 +102,13 @@ module _ (t : Table) (m : Marking) (good : GoodTable t) (j : ℕ) (used : j < t 
 
   -- it blocks nothing
   pub passed-words : Words next told
-  passed-words = record { next-size = words .next-size; rights-size = length-set rights j right ∙ words .rights-size; few = words .few; rises = words .rises; events = told-events }
+  passed-words = record {
+    next-size = words .next-size;
+    rights-size = length-set rights j right ∙ words .rights-size;
+    few = words .few;
+    rises = words .rises;
+    events = told-events;
+  }
 
   pub passed : stopped ≡ false → WordsFrom t m j next told
   unfolding blocks

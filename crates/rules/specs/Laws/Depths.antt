@@ -93,7 +93,9 @@ module _ (t : Table) (m : Marking) (good : GoodTable t) where
       go : (stays : Bool) → ((d e o : ℕ) → Rooted d e (visit t m f d e o .links))
           → Rooted d e (cond stays (nothing o) (along (t .count) step (withEvent o e)) .links)
       go true ih = empty
-      go false ih = along-links (λ p. Unit {0}) (Rooted d e) step empty (rooted-append d e) (t .count) (λ k p b q. (tt, stepped k p (blocks t m e k) refl)) (withEvent o e) tt
+      go false ih =
+          along-links (λ p. Unit {0}) (Rooted d e) step empty (rooted-append d e) (t .count) (λ k p b q. (tt, stepped k p (blocks t m e k) refl))
+          (withEvent o e) tt
         where
           stepped : (k p : ℕ) (blocked : Bool) → blocks t m e k ≡ blocked → Rooted d e (step k p .links)
           stepped k p true is = rw is (rooted-led d e k (visit t m f (suc d) (right k) p) (blocks-left t m good e k is) (ih (suc d) (right k) p))
@@ -151,7 +153,8 @@ module _ (t : Table) (m : Marking) (good : GoodTable t) where
       go false false is there = rw (is, there) empty
       go false true is there =
           let less : unopened t (withEvent o e) < unopened t o =
-          many-lt (λ x. not (has (withEvent o e) x)) (λ x. not (has o x)) (λ x h. ap not (denied (has o x) (λ q. clash (was-opened t m good o e x q) (not-true _ h))))
+          many-lt (λ x. not (has (withEvent o e) x)) (λ x. not (has o x))
+          (λ x h. ap not (denied (has o x) (λ q. clash (was-opened t m good o e x q) (not-true _ h))))
           (t .events) e b (ap not (has-with o e e ∙ or-right (has o e) _ (eq-eqb e e refl))) (ap not is) in
           rw (is, there)
           (along-links (λ p. (has p e ≡ true) × (unopened t p ≤ f)) (OwnDeep d e) step empty (deep-append d e) (t .count)

@@ -236,7 +236,8 @@ module _ (t : Table) (m : Marking) (good : GoodTable t) where
         go true included is there ih = rw is start
         go false false is there ih = rw (is, there) start
         go false true is there ih =
-            rw (is, there) (along-keeps (λ p. (x : ℕ) → has p x ≡ true → P x) step (t .count) (λ k p b q. stepped k p b q (blocks t m e k) refl) (withEvent o e) opening)
+            rw (is, there)
+            (along-keeps (λ p. (x : ℕ) → has p x ≡ true → P x) step (t .count) (λ k p b q. stepped k p b q (blocks t m e k) refl) (withEvent o e) opening)
           where
             step : ℕ → ℕ → Visit
             step k p = cond (blocks t m e k) (ledTo k d (visit t m f (suc d) (right k) p)) (nothing p)

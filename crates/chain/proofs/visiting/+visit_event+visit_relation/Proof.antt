@@ -138,7 +138,10 @@ visit-event-returns : (t : ℕ) → visit-event-lts.Need-returns (
 visit-event-returns t c =
     let st = c .before .before .before in (
       refl,
-      (le-refl _, λ t m words there f h. sym (seen t m f _ _ (stateOf (st .args .w) (st .args .list .now)) (sym (c .before .has-event .ensures) ∙ c .if1 .taken))),
+      (
+        le-refl _,
+        λ t m words there f h. sym (seen t m f _ _ (stateOf (st .args .w) (st .args .list .now)) (sym (c .before .has-event .ensures) ∙ c .if1 .taken)),
+      ),
     )
 
 visit-event-adding-requires : (t : ℕ) → visit-event-lts.Need-adding-requires (
@@ -391,7 +394,9 @@ visit-relation-same-length : (t : ℕ) → visit-relation-lts.Need-same-length (
 visit-relation-same-length t c =
     let came = c .before .before in
     let joined = came .before .before .before in
-    came .visit-event .ensures .0 ∙ ⊎-elim (λ w. ap length (w .1) ∙ length-set (joined .before .before .args .list .now) (joined .before .before .args .w .count) _) (λ w. ap length (w .1)) (joined .if1 .came)
+    let a = joined .before .before .args in
+    came .visit-event .ensures .0
+    ∙ ⊎-elim (λ w. ap length (w .1) ∙ length-set (a .list .now) (a .w .count) _) (λ w. ap length (w .1)) (joined .if1 .came)
 
 visit-relation-returns : (t : ℕ) → visit-relation-lts.Need-returns (
   visit-event-below t,
@@ -405,6 +410,7 @@ visit-relation-returns t c =
     let d = st .args .depth in
     let w = st .args .w in
     let s = stateOf w (st .args .list .now) in
+    let noted = stateOf (record { opened = w .opened; count = joined .if1 .count }) (joined .if1 .list) in
     let after = came .visit-event .ensures in (
       visit-relation-same-length t c,
       (
@@ -412,7 +418,7 @@ visit-relation-returns t c =
         λ t m words few there f h.
             let right = words .1 .rights-told k (omega arith) few in
             after .1 .1 t m words (subst (λ (x : ℕ). recordOf m x .included ≡ true) (sym right) there) f h
-            ∙ ap₂ (λ (n x : ℕ). carried (visit t m f n x (w .opened)) (stateOf (record { opened = w .opened; count = joined .if1 .count }) (joined .if1 .list))) (add-one d) right
+            ∙ ap₂ (λ (n x : ℕ). carried (visit t m f n x (w .opened)) noted) (add-one d) right
             ∙ ap (carried (visit t m f (suc d) (relationOf t k .right) (w .opened)))
             (⊎-elim
             (λ z. ap₂ (λ (n : ℕ) (l : List ℕ). stateOf (record { opened = w .opened; count = n }) l) (z .2) (z .1) ∙ sym (note (link k d) s (z .0 .taken)))

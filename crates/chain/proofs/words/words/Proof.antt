@@ -103,11 +103,13 @@ loop-again c =
     let inv = here .loop .inv in
     let j : ℕ = here .loop .i - 1 in
     let used : j < a .t1 .count = omega (arith, inv .0) in
-    let from = subst (λ (n : ℕ). WordsFrom (a .t1) (a .t2) n (here .loop .next) (here .loop .rights)) (before-last (stopped .before .before .before .before .loop-test .taken)) (inv .2) in
+    let some = before-last (stopped .before .before .before .before .loop-test .taken) in
+    let from = subst (λ (n : ℕ). WordsFrom (a .t1) (a .t2) n (here .loop .next) (here .loop .rights)) some (inv .2) in
     let table = here .before .pre .0 .table-good in (
       omega (arith, inv .0),
       linked-words (a .t1) (a .t2) table j used (here .loop .next) (here .loop .rights) (inv .1) from,
-      blocked (a .t1) (a .t2) table j used (here .loop .next) (here .loop .rights) (inv .1) from (sym (stopped .stops .ensures) ∙ c .before .before .if1 .taken),
+      blocked (a .t1) (a .t2) table j used (here .loop .next) (here .loop .rights) (inv .1) from
+          (sym (stopped .stops .ensures) ∙ c .before .before .if1 .taken),
     )
 
 loop-less-2 : tie.Need-loop-less-2 Inv-loop μ-loop
@@ -121,7 +123,8 @@ loop-again-2 c =
     let inv = here .loop .inv in
     let j : ℕ = here .loop .i - 1 in
     let used : j < a .t1 .count = omega (arith, inv .0) in
-    let from = subst (λ (n : ℕ). WordsFrom (a .t1) (a .t2) n (here .loop .next) (here .loop .rights)) (before-last (stopped .before .before .before .before .loop-test .taken)) (inv .2) in
+    let some = before-last (stopped .before .before .before .before .loop-test .taken) in
+    let from = subst (λ (n : ℕ). WordsFrom (a .t1) (a .t2) n (here .loop .next) (here .loop .rights)) some (inv .2) in
     let table = here .before .pre .0 .table-good in (
       omega (arith, inv .0),
       passed-words (a .t1) (a .t2) table j used (here .loop .next) (here .loop .rights) (inv .1) from,
