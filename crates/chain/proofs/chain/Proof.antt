@@ -28,15 +28,18 @@ then-event-requires c κs = search needs
 then-room-requires : tie.Need-then-room-requires
 then-room-requires c κs = search needs
 
+-- where the call begins, from where all is asked
+abbrev start : tie.After-then-room → tie.Start
+start c = let asked = c .before in asked .before .before .before .before
+
 -- the number, once all is asked
 number : (c : tie.After-then-room)
-    → let a = c .before .before .before .before .before .args in
+    → let a = start c .args in
     c .then-room .result ≡ chainNumber (a .t) (a .m) (a .event) (length (a .list .now))
 unfolding chainNumber
 number c =
     let asked = c .before in
-    let st = asked .before .before .before .before in
-    let a = st .args in
+    let a = start c .args in
     let event =
     event-by (a .t) (a .m) (a .event)
     (judged-by (a .t) (a .m) (asked .before .before .judge-table .ensures) (asked .before .then-marking .ensures)) (asked .then-event .ensures) in
@@ -48,7 +51,7 @@ listed-requires : tie.Need-listed-requires
 unfolding chainNumber
 listed-requires c κs =
     let room = c .before .before in
-    let a = room .before .before .before .before .before .args in
+    let a = start room .args in
     let granted = sym (number room) ∙ c .before .if1 .taken in
     let p = both-done (judged (a .t) (a .m)) _ granted in
     let q = both-done (eventNumber (a .t) (a .event)) _ (p .1) in

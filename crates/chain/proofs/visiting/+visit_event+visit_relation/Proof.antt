@@ -73,18 +73,75 @@ visit-event-Inv-loop next rights e depth list₀ opened x s₀ k₀ list s k =
 abbrev visit-event-μ-loop : visit-event-lts.MeasureT-loop
 visit-event-μ-loop next rights e depth list₀ opened x s₀ k₀ list s k = 256 - k
 
--- e was not open, so opening it makes the set larger
-grown : (t : ℕ) (c : visit-event-lts.After-adding (
+-- The places that the proof looks back to: where the event is opened, where its first blocking relation is known, the loop, and where the next
+-- one is known. The visit begins before them.
+abbrev Added : ℕ → Type 0
+Added t = visit-event-lts.After-adding (
   has-event-reads.Asked,
   has-event-reads.Learnt,
   adding-reads.Asked,
   adding-reads.Learnt,
   visit-relation-below t,
   visit-relation.Post,
-) (visit-event-at t) visit-event.Post visit-event-Inv-loop visit-event-μ-loop)
-    → sizeOf (c .before .before .before .before .args .w .opened) < sizeOf (c .adding .result)
+) (visit-event-at t) visit-event.Post visit-event-Inv-loop visit-event-μ-loop
+
+abbrev Known : ℕ → Type 0
+Known t = visit-event-lts.After-k (
+  has-event-reads.Asked,
+  has-event-reads.Learnt,
+  adding-reads.Asked,
+  adding-reads.Learnt,
+  visit-relation-below t,
+  visit-relation.Post,
+) (visit-event-at t) visit-event.Post visit-event-Inv-loop visit-event-μ-loop
+
+abbrev Loop : ℕ → Type 0
+Loop t = visit-event-lts.At-loop (
+  has-event-reads.Asked,
+  has-event-reads.Learnt,
+  adding-reads.Asked,
+  adding-reads.Learnt,
+  visit-relation-below t,
+  visit-relation.Post,
+) (visit-event-at t) visit-event.Post visit-event-Inv-loop visit-event-μ-loop
+
+abbrev Next : ℕ → Type 0
+Next t = visit-event-lts.After-k2 (
+  has-event-reads.Asked,
+  has-event-reads.Learnt,
+  adding-reads.Asked,
+  adding-reads.Learnt,
+  visit-relation-below t,
+  visit-relation.Post,
+) (visit-event-at t) visit-event.Post visit-event-Inv-loop visit-event-μ-loop
+
+abbrev Start : ℕ → Type 0
+Start t = visit-event-lts.Start (
+  has-event-reads.Asked,
+  has-event-reads.Learnt,
+  adding-reads.Asked,
+  adding-reads.Learnt,
+  visit-relation-below t,
+  visit-relation.Post,
+) (visit-event-at t) visit-event.Post visit-event-Inv-loop visit-event-μ-loop
+
+abbrev begun : {t : ℕ} → Added t → Start t
+begun c = c .before .before .before .before
+
+abbrev starting : {t : ℕ} → Known t → Start t
+starting c = begun (c .before)
+
+abbrev opening : {t : ℕ} → Loop t → Added t
+opening c = c .before .before
+
+abbrev visiting : {t : ℕ} → Next t → Loop t
+visiting c = let came = c .before .before .before in came .before .before .before
+
+-- e was not open, so opening it makes the set larger
+grown : (t : ℕ) (c : Added t)
+    → sizeOf (begun c .args .w .opened) < sizeOf (c .adding .result)
 grown t c =
-    let st = c .before .before .before .before in
+    let st = begun c in
     subst (λ (o : ℕ). sizeOf (st .args .w .opened) < sizeOf o) (sym (c .adding .ensures))
     (size-grows (st .args .w .opened) (st .args .e) (st .pre .1 .1 .0) (sym (c .before .before .has-event .ensures) ∙ c .before .if1 .left))
 
@@ -97,17 +154,17 @@ ends : (n : ℕ) (c : visit-event-lts.After-loop (
   visit-relation-below n,
   visit-relation.Post,
 ) (visit-event-at n) visit-event.Post visit-event-Inv-loop visit-event-μ-loop)
-    → let st = c .before .before .before .before .before .before .before in
+    → let st = begun (opening (c .before)) in
     (t : Table) (m : Marking) → WordsOf t m (st .args .next .now) (st .args .rights .now) → recordOf m (st .args .e) .included ≡ true
     → (f : ℕ) → 64 ≤ f + sizeOf (st .args .w .opened)
     → stateOf (c .before .loop .s) (c .before .loop .list)
     ≡ carried (visit t m f (st .args .depth) (st .args .e) (st .args .w .opened)) (stateOf (st .args .w) (st .args .list .now))
 ends n c t m words there zero h =
-    absurd (omega (arith, grown n (c .before .before .before), size-small (c .before .before .before .adding .result), h))
+    absurd (omega (arith, grown n (opening (c .before)), size-small (opening (c .before) .adding .result), h))
 ends n c t m words there (suc f) h =
     let here = c .before in
-    let added = here .before .before in
-    let st = added .before .before .before .before in
+    let added = opening here in
+    let st = begun added in
     let d = st .args .depth in
     let e = st .args .e in
     let s = stateOf (st .args .w) (st .args .list .now) in
@@ -192,7 +249,7 @@ visit-event-cast-k : (t : ℕ) → visit-event-lts.Need-cast-k (
   visit-relation-below t,
   visit-relation.Post,
 ) (visit-event-at t) visit-event.Post visit-event-Inv-loop visit-event-μ-loop
-visit-event-cast-k t c = let st = c .before .before .before .before .before in omega (arith, st .pre .1 .0 .few (256 + st .args .e))
+visit-event-cast-k t c = let st = starting c in omega (arith, st .pre .1 .0 .few (256 + st .args .e))
 
 visit-event-loop-holds : (t : ℕ) → visit-event-lts.Need-loop-holds (
   has-event-reads.Asked,
@@ -203,7 +260,7 @@ visit-event-loop-holds : (t : ℕ) → visit-event-lts.Need-loop-holds (
   visit-relation.Post,
 ) (visit-event-at t) visit-event.Post visit-event-Inv-loop visit-event-μ-loop
 visit-event-loop-holds t c =
-    let st = c .before .before .before .before .before in
+    let st = starting c in
     let s = stateOf (record { opened = c .before .adding .result; count = st .args .w .count }) (st .args .list .now) in (
       refl,
       le-refl _,
@@ -222,8 +279,8 @@ visit-event-visit-relation-requires : (t : ℕ) → visit-event-lts.Need-visit-r
 ) (visit-event-at t) visit-event.Post visit-event-Inv-loop visit-event-μ-loop
 visit-event-visit-relation-requires t c κs =
     let here = c .before .before in
-    let st = here .before .before .before .before .before .before in
-    let g = grown t (here .before .before) in
+    let st = begun (opening here) in
+    let g = grown t (opening here) in
     let inv = here .loop .inv in (
       omega (arith, g, inv .1, size-small (here .loop .s .opened), st .pre .0),
       (st .pre .1 .0, (c .before .loop-test .taken, omega (arith, g, inv .1, st .pre .1 .1 .1))),
@@ -258,8 +315,8 @@ visit-event-cast-k-2 : (t : ℕ) → visit-event-lts.Need-cast-k-2 (
   visit-relation.Post,
 ) (visit-event-at t) visit-event.Post visit-event-Inv-loop visit-event-μ-loop
 visit-event-cast-k-2 t c =
-    let here = c .before .before .before .before .before .before in
-    let st = here .before .before .before .before .before .before in
+    let here = visiting c in
+    let st = begun (opening here) in
     omega (arith, st .pre .1 .0 .few (here .loop .k))
 
 visit-event-loop-less : (t : ℕ) → visit-event-lts.Need-loop-less (
@@ -271,9 +328,10 @@ visit-event-loop-less : (t : ℕ) → visit-event-lts.Need-loop-less (
   visit-relation.Post,
 ) (visit-event-at t) visit-event.Post visit-event-Inv-loop visit-event-μ-loop
 visit-event-loop-less t c =
-    let loop = c .before .before .before .before .before in
-    let st = loop .before .before .before .before .before .before .before in
-    omega (arith, st .pre .1 .0 .rises (loop .before .loop .k) (loop .loop-test .taken), loop .loop-test .taken)
+    let came = c .before .before .before in
+    let taken = came .before .before .loop-test .taken in
+    let here = visiting c in
+    omega (arith, begun (opening here) .pre .1 .0 .rises (here .loop .k) taken, taken)
 
 visit-event-loop-again : (t : ℕ) → visit-event-lts.Need-loop-again (
   has-event-reads.Asked,
@@ -287,11 +345,11 @@ visit-event-loop-again t c =
     let came = c .before .before .before in
     let loop = came .before .before in
     let here = loop .before in
-    let st = here .before .before .before .before .before .before in
+    let st = begun (opening here) in
     let inv = here .loop .inv in
     let k = here .loop .k in
     let e = st .args .e in
-    let o = here .before .before .adding .result in
+    let o = opening here .adding .result in
     let s₀ = stateOf (record { opened = o; count = st .args .w .count }) (st .args .list .now) in
     let now = stateOf (here .loop .s) (here .loop .list) in
     let after = came .visit-relation .ensures in (
@@ -325,7 +383,7 @@ visit-event-returns-2 : (t : ℕ) → visit-event-lts.Need-returns-2 (
   visit-relation.Post,
 ) (visit-event-at t) visit-event.Post visit-event-Inv-loop visit-event-μ-loop
 visit-event-returns-2 t c =
-    let g = grown t (c .before .before .before) in
+    let g = grown t (opening (c .before)) in
     let inv = c .before .loop .inv in
     (inv .0, (omega (arith, g, inv .1), ends t c))
 

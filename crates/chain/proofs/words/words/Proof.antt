@@ -21,11 +21,17 @@ Inv-loop next₀ rights₀ t m i₀ next rights i = (i ≤ t .count) × Words ne
 abbrev μ-loop : tie.MeasureT-loop
 μ-loop next₀ rights₀ t m i₀ next rights i = i
 
+-- The places that the proof looks back to: a turn's beginning, and the loop that it is of.
+abbrev turn : tie.After-stops Inv-loop μ-loop → tie.In-loop Inv-loop μ-loop
+turn c = c .before .before .before .before
+
+abbrev at : tie.After-stops Inv-loop μ-loop → tie.At-loop Inv-loop μ-loop
+at c = turn c .before
+
 -- the left event of the relation that a turn looks at
-left-few : (c : tie.After-stops Inv-loop μ-loop)
-    → relationOf (c .before .before .before .before .before .before .args .t1) (c .before .before .before .before .before .loop .i - 1) .left < 64
+left-few : (c : tie.After-stops Inv-loop μ-loop) → relationOf (at c .before .args .t1) (at c .loop .i - 1) .left < 64
 left-few c =
-    let here = c .before .before .before .before .before in
+    let here = at c in
     let table = here .before .pre .0 .table-good in
     let used : here .loop .i - 1 < here .before .args .t1 .count = omega (arith, here .loop .inv .0) in
     omega (arith, table .relations-good (here .loop .i - 1) used .left-exists, table .few-events)
@@ -98,12 +104,12 @@ loop-less c = search needs
 loop-again : tie.Need-loop-again Inv-loop μ-loop
 loop-again c =
     let stopped = c .before .before .before in
-    let here = stopped .before .before .before .before .before in
+    let here = at stopped in
     let a = here .before .args in
     let inv = here .loop .inv in
     let j : ℕ = here .loop .i - 1 in
     let used : j < a .t1 .count = omega (arith, inv .0) in
-    let some = before-last (stopped .before .before .before .before .loop-test .taken) in
+    let some = before-last (turn stopped .loop-test .taken) in
     let from = subst (λ (n : ℕ). WordsFrom (a .t1) (a .t2) n (here .loop .next) (here .loop .rights)) some (inv .2) in
     let table = here .before .pre .0 .table-good in (
       omega (arith, inv .0),
@@ -118,12 +124,12 @@ loop-less-2 c = search needs
 loop-again-2 : tie.Need-loop-again-2 Inv-loop μ-loop
 loop-again-2 c =
     let stopped = c .before in
-    let here = stopped .before .before .before .before .before in
+    let here = at stopped in
     let a = here .before .args in
     let inv = here .loop .inv in
     let j : ℕ = here .loop .i - 1 in
     let used : j < a .t1 .count = omega (arith, inv .0) in
-    let some = before-last (stopped .before .before .before .before .loop-test .taken) in
+    let some = before-last (turn stopped .loop-test .taken) in
     let from = subst (λ (n : ℕ). WordsFrom (a .t1) (a .t2) n (here .loop .next) (here .loop .rights)) some (inv .2) in
     let table = here .before .pre .0 .table-good in (
       omega (arith, inv .0),
