@@ -561,7 +561,7 @@ chaining =
     ∷ down (chainOf 0 255) (chained (record { number = 14; count = 0 }))
     ∷ down (chainBuffer 0 (replicate 255 9)) (bytes (replicate 255 9))
     ∷ down (chainBuffer 3 (replicate 256 9)) (bytes (replicate 256 9))
-    -- and the images come before both
+    -- and judging comes before both
     ∷ asks steps (shop.marking (shop.idle ∷ [])) (chainOf 3 0) (chained (record { number = 1; count = 0 }))
     ∷ []
   where

@@ -116,3 +116,5 @@ pub record Told (t : Table) (m : Marking) (e : ℕ) (links : List Link) : Type 0
   pub own-depth : (i : ℕ) → i < length links → leftAt t links i ≡ e → linkAt links i .depth ≡ 0
   pub depth-own : (i : ℕ) → i < length links → linkAt links i .depth ≡ 0 → leftAt t links i ≡ e
   pub led : (i : ℕ) → i < length links → (leftAt t links i ≡ e → ⊥) → LedTo t links i
+  -- and none is as deep as there can be events, so that a place tells both its numbers
+  pub shallow : (i : ℕ) → i < length links → linkAt links i .depth < mostEvents

@@ -3,7 +3,7 @@ use mathlib.Core.Path.{_≡_, refl, _∙_, ap, sym, subst}
 use mathlib.Core.Bool.{Bool, true, false, not, _&&_, cond}
 use mathlib.Core.List.{List, [], _∷_, _++_}
 use mathlib.Core.Logic.{_⊎_, ⊎-elim, inl, inr}
-use Prim.Native.Nat.{ℕ, zero, suc, _<_, _≤_, _+_}
+use Prim.Native.Nat.{ℕ, zero, suc, _<_, _≤_, _+_, _/_, _%_}
 use native.Mathlib.Omega.{arith}
 use lib.Dec.{eqb, ltb}
 use lib.ListN.{length}
@@ -18,7 +18,7 @@ use Rattle.rules.specs.Holds.{mostEvents, relationOf, recordOf}
 use Rattle.rules.specs.Judge.{judged, eventNumber}
 use Rattle.rules.specs.Enabled.{blocks}
 use Rattle.rules.specs.HoldUp.{holdUpOf, holdUp, wouldBlock}
-use Rattle.rules.specs.Chain.{Link, Visit, link, nothing, ledTo, along, visit, chain, chainNumber, listed, reached, linkAt, Told}
+use Rattle.rules.specs.Chain.{Link, Visit, link, nothing, ledTo, along, visit, chain, chainNumber, placeOf, listed, reached, linkAt, Told}
 use Rattle.rules.specs.Shapes.Good.{GoodTable}
 use Rattle.rules.specs.Laws.Tests.{clash, both, join, same-test}
 use Rattle.rules.specs.Laws.Counting.{many-le}
@@ -29,7 +29,7 @@ use Rattle.rules.specs.Laws.Judge.{good}
 use Rattle.rules.specs.Laws.Granted.{event-exists}
 use Rattle.rules.specs.Laws.Links.{once, once-fits, once-apart}
 use Rattle.rules.specs.Laws.Visits.{Left, unopened, visited, reaches}
-use Rattle.rules.specs.Laws.Depths.{rooted, own-deep}
+use Rattle.rules.specs.Laws.Depths.{rooted, own-deep, shallow}
 
 module _ (t : Table) (m : Marking) (good : GoodTable t) where
   abbrev left : ℕ → ℕ
@@ -182,5 +182,10 @@ chain-told t m e room granted =
       none = λ never. none-named t m e (λ k is. never k (rw (first .0, second .0) is));
       own-depth = deep;
       depth-own = λ i b z. ⊎-elim (λ own. own .1) (λ y. absurd (omega (arith, y .above, z))) (root i b);
+      shallow = shallow t m table mostEvents 0 e 0;
       led = λ i b other. ⊎-elim (λ own. absurd (other (own .1))) (λ y. y) (root i b);
     }
+
+-- a place tells both its numbers
+pub place-told : (l : Link) → l .depth < mostEvents → (placeOf l / 256 ≡ l .relation) × (placeOf l % 256 ≡ l .depth)
+place-told l few = (omega (arith, few), omega (arith, few))

@@ -1,5 +1,5 @@
 -- How deep links stand. Of the links of a visit at depth d each is the event's own, d deep, or has an earlier one, one less deep, that leads to it;
--- and the event's own are all d deep: below it is opened already, so that none of its relations is listed there.
+-- and the event's own are all d deep: below it is opened already, so that none of its relations is listed there. None is deeper than a visit goes.
 use mathlib.Core.Path.{_≡_, refl, _∙_, ap, sym, subst}
 use mathlib.Core.Bool.{Bool, true, false, not, _||_, cond}
 use mathlib.Core.List.{List, [], _++_}
@@ -20,7 +20,7 @@ use Rattle.rules.specs.Shapes.Good.{GoodTable}
 use Rattle.rules.specs.Laws.Tests.{clash, denied, not-true, or-right}
 use Rattle.rules.specs.Laws.Counting.{many-lt}
 use Rattle.rules.specs.Laws.EventSet.{has-with}
-use Rattle.rules.specs.Laws.Links.{along-links, listed-at}
+use Rattle.rules.specs.Laws.Links.{Each, each-append, along-links, listed-at}
 use Rattle.rules.specs.Laws.Visits.{Left, unopened, blocks-left, fewer, was-opened, visited}
 
 module _ (t : Table) (m : Marking) (good : GoodTable t) where
@@ -102,24 +102,7 @@ module _ (t : Table) (m : Marking) (good : GoodTable t) where
           stepped k p false is = rw is empty
 
   abbrev pub OwnDeep : ℕ → ℕ → List Link → Type 0
-  OwnDeep d e links = (i : ℕ) → i < length links → left (linkAt links i .relation) ≡ e → linkAt links i .depth ≡ d
-
-  deep-append : (d e : ℕ) (a b : List Link) → OwnDeep d e a → OwnDeep d e b → OwnDeep d e (a ++ b)
-  deep-append d e a b p q i h = go (ltb i (length a)) refl
-    where
-      Deep : Link → Type 0
-      Deep l = left (l .relation) ≡ e → l .depth ≡ d
-
-      go : (first : Bool) → ltb i (length a) ≡ first → Deep (linkAt (a ++ b) i)
-      go true c =
-          let in-a : i < length a = ltb-true i (length a) c in
-          subst (λ (l : Link). left (l .relation) ≡ e → l .depth ≡ d) (sym (List·getD-append a b (link 0 0) i in-a)) (p i in-a)
-      go false c =
-          let j : ℕ = i - length a in
-          let is : i ≡ length a + j = omega (arith, ltb-false i (length a) c) in
-          let in-b : j < length b = omega (arith, h, length-append a b, ltb-false i (length a) c) in
-          subst (λ (x : ℕ). left (linkAt (a ++ b) x .relation) ≡ e → linkAt (a ++ b) x .depth ≡ d) (sym is)
-          (subst (λ (l : Link). left (l .relation) ≡ e → l .depth ≡ d) (sym (getD-append-add a b j (link 0 0))) (q j in-b))
+  OwnDeep d e = Each (λ l. left (l .relation) ≡ e → l .depth ≡ d)
 
   pub own-deep : (f d e o : ℕ) → e < t .events → unopened t o ≤ f → OwnDeep d e (visit t m f d e o .links)
   unfolding visit
@@ -157,6 +140,36 @@ module _ (t : Table) (m : Marking) (good : GoodTable t) where
           (λ x h. ap not (denied (has o x) (λ q. clash (was-opened t m good o e x q) (not-true _ h))))
           (t .events) e b (ap not (has-with o e e ∙ or-right (has o e) _ (eq-eqb e e refl))) (ap not is) in
           rw (is, there)
-          (along-links (λ p. (has p e ≡ true) × (unopened t p ≤ f)) (OwnDeep d e) step empty (deep-append d e) (t .count)
+          (along-links (λ p. (has p e ≡ true) × (unopened t p ≤ f)) (OwnDeep d e) step empty (each-append (λ l. left (l .relation) ≡ e → l .depth ≡ d)) (t .count)
           (λ k p c q. stepped k p c q (blocks t m e k) refl) (withEvent o e)
           (has-with o e e ∙ or-right (has o e) _ (eq-eqb e e refl), omega (arith, less, enough)))
+
+  -- a visit at depth d that goes down at most f events lists nothing as deep as d + f
+  pub shallow : (f d e o : ℕ) → Each (λ l. l .depth < d + f) (visit t m f d e o .links)
+  unfolding visit
+  shallow zero d e o = λ i h. absurd (omega (arith, h))
+  shallow (suc f) d e o = go (has o e || not (recordOf m e .included)) (shallow f)
+    where
+      Near : Link → Type 0
+      Near l = l .depth < d + suc f
+
+      step : ℕ → ℕ → Visit
+      step k p = cond (blocks t m e k) (ledTo k d (visit t m f (suc d) (right k) p)) (nothing p)
+
+      empty : Each Near []
+      empty i h = absurd (omega (arith, h))
+
+      go : (stays : Bool) → ((d e o : ℕ) → Each (λ l. l .depth < d + f) (visit t m f d e o .links))
+          → Each Near (cond stays (nothing o) (along (t .count) step (withEvent o e)) .links)
+      go true ih = empty
+      go false ih =
+          along-links (λ p. Unit {0}) (Each Near) step empty (each-append Near) (t .count) (λ k p b q. (tt, stepped k p (blocks t m e k) refl))
+          (withEvent o e) tt
+        where
+          led : (k p : ℕ) → Each Near (ledTo k d (visit t m f (suc d) (right k) p) .links)
+          led k p zero h = omega arith
+          led k p (suc i) h = omega (arith, ih (suc d) (right k) p i (omega (arith, h)))
+
+          stepped : (k p : ℕ) (blocked : Bool) → blocks t m e k ≡ blocked → Each Near (step k p .links)
+          stepped k p true is = rw is (led k p)
+          stepped k p false is = rw is empty
