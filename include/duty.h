@@ -48,8 +48,8 @@
  *
  * Stack. Bytes that a call takes at most on x86-64, its callers and what they lend not counted, nor memcpy and memset of the C library. They
  * are measured, of the compiled library, and not proved: docs/BENCH.md, 'Stack', says how. None takes more than 24 KiB. There is no heap, and
- * one call recurses: duty_chain, one visit within another for each event at most, 64, and one more that finds its event open. Its bytes are those
- * of all of them.
+ * one call recurses: duty_chain, one visit within another for each event at most, 64, and one more that finds its event open. All of them are
+ * counted.
  *     duty_run 24,064             duty_guarded_tick 23,056  duty_check 19,088       duty_request 18,048
  *     duty_report 18,048          duty_plain_tick 18,048    duty_margin 17,968      duty_chain 16,816
  *     duty_closure 16,432         duty_enabled 15,888       duty_hold_up 15,888     duty_due 14,608
