@@ -140,7 +140,8 @@ module _ (t : Table) (m : Marking) (good : GoodTable t) where
           (λ x h. ap not (denied (has o x) (λ q. clash (was-opened t m good o e x q) (not-true _ h))))
           (t .events) e b (ap not (has-with o e e ∙ or-right (has o e) _ (eq-eqb e e refl))) (ap not is) in
           rw (is, there)
-          (along-links (λ p. (has p e ≡ true) × (unopened t p ≤ f)) (OwnDeep d e) step empty (each-append (λ l. left (l .relation) ≡ e → l .depth ≡ d)) (t .count)
+          (along-links (λ p. (has p e ≡ true) × (unopened t p ≤ f)) (OwnDeep d e) step empty
+          (each-append (λ l. left (l .relation) ≡ e → l .depth ≡ d)) (t .count)
           (λ k p c q. stepped k p c q (blocks t m e k) refl) (withEvent o e)
           (has-with o e e ∙ or-right (has o e) _ (eq-eqb e e refl), omega (arith, less, enough)))
 
