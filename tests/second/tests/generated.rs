@@ -25,6 +25,22 @@ fn for_each_case(mut look_at: impl FnMut(&Case, &Answer)) {
     }
 }
 
+/// Each sort of answer comes up at least five times, and no other does.
+fn all_come_up(sorts_of: fn(&Case, &Answer) -> Vec<&'static str>, sorts: &[&str]) {
+    let mut seen = Counts::new();
+    for_each_case(|case, answer| {
+        for sort in sorts_of(case, answer) {
+            count(&mut seen, sort);
+        }
+    });
+    println!("{seen:?}");
+    for sort in sorts {
+        let times = seen.get(sort).copied().unwrap_or(0);
+        assert!(times >= 5, "{sort}: {seen:?}");
+    }
+    assert_eq!(seen.len(), sorts.len());
+}
+
 /// Every number that a call can give. Decoded values have no spare bits, so 2
 /// is for those that read table images, or class bytes and firm as numbers.
 const NUMBERS: [(&str, &[u8]); 28] = [

@@ -5,7 +5,7 @@ mod engines;
 mod sorts;
 
 use super::promises::promise;
-use super::{all_noticed, count, for_each_case, Counts};
+use super::{all_come_up, all_noticed, count, for_each_case, Counts};
 use engines::{right_answer, wrong_answers, LISTS, VISITS, WALKS};
 use second::case::{Answer, Case};
 use second::generate;
@@ -17,20 +17,7 @@ const ENGINES: usize = WALKS.len() + VISITS.len() + LISTS.len();
 /// The bias that makes chains worth comparing.
 #[test]
 fn every_sort_comes_up() {
-    let mut seen = Counts::new();
-    for_each_case(|case, answer| {
-        for sort in sorts_of(case, answer) {
-            count(&mut seen, sort);
-        }
-    });
-    println!("{seen:?}");
-    for sort in SORTS {
-        assert!(
-            seen.get(sort).copied().unwrap_or(0) >= 5,
-            "{sort}: {seen:?}"
-        );
-    }
-    assert_eq!(seen.len(), SORTS.len());
+    all_come_up(sorts_of, &SORTS);
 }
 
 /// In 1,000 cases, whatever the seed.

@@ -5,7 +5,7 @@ mod engines;
 pub mod sorts;
 
 use super::promises::promise;
-use super::{all_noticed, count, for_each_case, Counts};
+use super::{all_come_up, all_noticed, count, for_each_case, Counts};
 use engines::{wrong_answers, HOLD_UPS, MARGINS};
 use second::case::{Answer, Case};
 use second::rng::Rng;
@@ -15,20 +15,7 @@ use sorts::{sorts_of, SORTS};
 /// The bias that makes margins and hold-ups worth comparing.
 #[test]
 fn every_sort_comes_up() {
-    let mut seen = Counts::new();
-    for_each_case(|case, answer| {
-        for sort in sorts_of(case, answer) {
-            count(&mut seen, sort);
-        }
-    });
-    println!("{seen:?}");
-    for sort in SORTS {
-        assert!(
-            seen.get(sort).copied().unwrap_or(0) >= 5,
-            "{sort}: {seen:?}"
-        );
-    }
-    assert_eq!(seen.len(), SORTS.len());
+    all_come_up(sorts_of, &SORTS);
 }
 
 /// In 500 cases of each call, whatever the seed.
