@@ -3,7 +3,7 @@ use mathlib.Core.Path.{_≡_, sym, ap, _∙_, subst}
 use mathlib.Core.Bool.{Bool, true, false}
 use mathlib.Core.List.{List}
 use mathlib.Core.Logic.{_⊎_, ⊎-elim, inl, inr}
-use Prim.Native.Nat.{ℕ, suc, _+_, _<_, _≤_}
+use Prim.Native.Nat.{ℕ, suc, _+_, _-_, _<_, _≤_}
 use native.Mathlib.Omega.{arith}
 use lib.Dec.{eqb, ltb}
 use lib.ListN.{length, getD, set, replicate, length-set, length-replicate, getD-replicate, List·getD-eq-default}
@@ -16,6 +16,10 @@ use Rattle.rules.specs.Enabled.{stops, blocks}
 use Rattle.rules.specs.Shapes.Good.{GoodTable}
 use Rattle.rules.specs.Laws.Tests.{clash, decide, both, join, and-false}
 use Rattle.chain.specs.Words.{Words, First, WordsFrom}
+
+-- what the pass has made when the relations from i on are told
+abbrev pub Filled : Table → Marking → ℕ → List ℕ → List ℕ → Type 0
+Filled t m i next rights = (i ≤ t .count) × Words next rights × WordsFrom t m i next rights
 
 same-or-not : (a b : ℕ) → (a ≡ b) ⊎ (a ≡ b → ⊥)
 same-or-not a b = ⊎-elim (λ p. inl (eqb-true a b p)) (λ p. inr (λ z. clash (eq-eqb a b z) p)) (decide (eqb a b))
@@ -101,7 +105,7 @@ module _ (t : Table) (m : Marking) (good : GoodTable t) (j : ℕ) (used : j < t 
   }
 
   -- it blocks nothing
-  pub passed-words : Words next told
+  passed-words : Words next told
   passed-words = record {
     next-size = words .next-size;
     rights-size = length-set rights j right ∙ words .rights-size;
@@ -110,7 +114,7 @@ module _ (t : Table) (m : Marking) (good : GoodTable t) (j : ℕ) (used : j < t 
     events = told-events;
   }
 
-  pub passed : stopped ≡ false → WordsFrom t m j next told
+  passed : stopped ≡ false → WordsFrom t m j next told
   unfolding blocks
   passed free = record {
     firsts = λ e b. wider e (getD next (256 + e) 0) (none e) (from .firsts e b);
@@ -148,7 +152,7 @@ module _ (t : Table) (m : Marking) (good : GoodTable t) (j : ℕ) (used : j < t 
   linked-other k n o =
       getD-set-other (set next j first-of) (256 + left) k j 0 o ∙ getD-set-other next j k first-of 0 n
 
-  pub linked-words : Words linked told
+  linked-words : Words linked told
   linked-words = record {
     next-size = length-set (set next j first-of) (256 + left) j ∙ length-set next j first-of ∙ words .next-size;
     rights-size = length-set rights j right ∙ words .rights-size;
@@ -162,7 +166,7 @@ module _ (t : Table) (m : Marking) (good : GoodTable t) (j : ℕ) (used : j < t 
     events = told-events;
   }
 
-  pub blocked : stopped ≡ true → WordsFrom t m j linked told
+  blocked : stopped ≡ true → WordsFrom t m j linked told
   unfolding blocks
   blocked is = record {
     firsts = λ e b. ⊎-elim
@@ -189,3 +193,31 @@ module _ (t : Table) (m : Marking) (good : GoodTable t) (j : ℕ) (used : j < t 
 
       other : (e : ℕ) → (e ≡ left → ⊥) → blocks t m e j ≡ false
       other e n = rw (ne-eqb left e (λ z. n (sym z)))
+
+-- one turn of the pass, at the relation before i: it blocks nothing, or its left event
+module _ (t : Table) (m : Marking) (good : GoodTable t) (i : ℕ) (some : 0 < i) (next rights : List ℕ) (filled : Filled t m i next rights) where
+  abbrev last : ℕ
+  last = i - 1
+
+  used-last : last < t .count
+  used-last = omega (arith, some, filled .0)
+
+  from-last : WordsFrom t m (suc last) next rights
+  from-last = let is : i ≡ suc last = omega (arith, some) in subst (λ (n : ℕ). WordsFrom t m n next rights) is (filled .2)
+
+  pub turn-passed : stops (relationOf t last) (recordOf m (relationOf t last .right)) ≡ false
+      → Filled t m last next (set rights last (relationOf t last .right))
+  turn-passed free = (
+    omega (arith, used-last),
+    passed-words t m good last used-last next rights (filled .1) from-last,
+    passed t m good last used-last next rights (filled .1) from-last free,
+  )
+
+  pub turn-blocked : stops (relationOf t last) (recordOf m (relationOf t last .right)) ≡ true
+      → Filled t m last (set (set next last (getD next (256 + relationOf t last .left) 0)) (256 + relationOf t last .left) last)
+      (set rights last (relationOf t last .right))
+  turn-blocked is = (
+    omega (arith, used-last),
+    linked-words t m good last used-last next rights (filled .1) from-last,
+    blocked t m good last used-last next rights (filled .1) from-last is,
+  )

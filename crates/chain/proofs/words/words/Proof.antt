@@ -1,22 +1,19 @@
 -- The loop's invariant: the words tell of the relations from i on. Assumes nothing.
 use mathlib.Core.Path.{_≡_, sym, _∙_, subst}
 use mathlib.Core.List.{List}
-use Prim.Native.Nat.{ℕ, suc, _<_, _≤_, _-_}
+use Prim.Native.Nat.{ℕ, _<_, _-_}
 use native.Mathlib.Omega.{arith}
 use borrow.Author.Needs.{needs}
 use lib.ListN.{replicate}
 use Rattle.rules.specs.Holds.{relationOf}
 use Rattle.rules.specs.Laws.Granted.{right-told}
 use Rattle.chain.specs.Words.{Words, WordsFrom}
-use Rattle.chain.specs.Laws.Filling.{starts, begun, passed-words, passed, linked-words, blocked}
+use Rattle.chain.specs.Laws.Filling.{Filled, starts, begun, turn-passed, turn-blocked}
 use Rattle.chain.proofs.words.words.Statement.{statement}
 use Rattle.chain.proofs.words.words.Tie as tie
 
-before-last : {i : ℕ} → 0 < i → i ≡ suc (i - 1)
-before-last b = omega (arith, b)
-
 abbrev Inv-loop : tie.InvT-loop
-Inv-loop next₀ rights₀ t m i₀ next rights i = (i ≤ t .count) × Words next rights × WordsFrom t m i next rights
+Inv-loop next₀ rights₀ t m i₀ next rights i = Filled t m i next rights
 
 abbrev μ-loop : tie.MeasureT-loop
 μ-loop next₀ rights₀ t m i₀ next rights i = i
@@ -105,18 +102,8 @@ loop-again : tie.Need-loop-again Inv-loop μ-loop
 loop-again c =
     let stopped = c .before .before .before in
     let here = at stopped in
-    let a = here .before .args in
-    let inv = here .loop .inv in
-    let j : ℕ = here .loop .i - 1 in
-    let used : j < a .t1 .count = omega (arith, inv .0) in
-    let some = before-last (turn stopped .loop-test .taken) in
-    let from = subst (λ (n : ℕ). WordsFrom (a .t1) (a .t2) n (here .loop .next) (here .loop .rights)) some (inv .2) in
-    let table = here .before .pre .0 .table-good in (
-      omega (arith, inv .0),
-      linked-words (a .t1) (a .t2) table j used (here .loop .next) (here .loop .rights) (inv .1) from,
-      blocked (a .t1) (a .t2) table j used (here .loop .next) (here .loop .rights) (inv .1) from
-          (sym (stopped .stops .ensures) ∙ c .before .before .if1 .taken),
-    )
+    turn-blocked _ _ (here .before .pre .0 .table-good) _ (turn stopped .loop-test .taken) _ _ (here .loop .inv)
+    (sym (stopped .stops .ensures) ∙ c .before .before .if1 .taken)
 
 loop-less-2 : tie.Need-loop-less-2 Inv-loop μ-loop
 loop-less-2 c = search needs
@@ -125,17 +112,8 @@ loop-again-2 : tie.Need-loop-again-2 Inv-loop μ-loop
 loop-again-2 c =
     let stopped = c .before in
     let here = at stopped in
-    let a = here .before .args in
-    let inv = here .loop .inv in
-    let j : ℕ = here .loop .i - 1 in
-    let used : j < a .t1 .count = omega (arith, inv .0) in
-    let some = before-last (turn stopped .loop-test .taken) in
-    let from = subst (λ (n : ℕ). WordsFrom (a .t1) (a .t2) n (here .loop .next) (here .loop .rights)) some (inv .2) in
-    let table = here .before .pre .0 .table-good in (
-      omega (arith, inv .0),
-      passed-words (a .t1) (a .t2) table j used (here .loop .next) (here .loop .rights) (inv .1) from,
-      passed (a .t1) (a .t2) table j used (here .loop .next) (here .loop .rights) (inv .1) from (sym (stopped .stops .ensures) ∙ c .if1 .left),
-    )
+    turn-passed _ _ (here .before .pre .0 .table-good) _ (turn stopped .loop-test .taken) _ _ (here .loop .inv)
+    (sym (stopped .stops .ensures) ∙ c .if1 .left)
 
 returns : tie.Need-returns Inv-loop μ-loop
 returns c =
