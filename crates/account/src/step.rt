@@ -31,11 +31,10 @@ fn tick(t: Table, m: Marking, kind: u8, event: u8) -> Marking {
 }
 
 fn step(t: Table, m: Marking, kind: u8, event: u8) -> Marking {
-    match kind {
-        Step::REQUEST => told(engine::request(t, m, event as usize)),
-        Step::REPORT => told(engine::report(t, m, event as usize)),
-        _ => tick(t, m, kind, event),
+    if kind <= Step::LAST_HAPPEN {
+        return told(engine::happen(t, m, event as usize));
     }
+    tick(t, m, kind, event)
 }
 
 // The marking after the last step.

@@ -20,7 +20,7 @@ use Rattle.acts.specs.Stands.{Stands}
 pub members-once : (f : ℕ → Bool) {r s : ℕ} → ((x : ℕ) → has r x ≡ f x) → ((x : ℕ) → has s x ≡ f x) → r ≡ s
 members-once f {r} {s} p q = same-word r s (λ x. p x ∙ sym (q x))
 
--- `lay`, `give`, `effect`, `tick`, `ask`
+-- `lay`, `give`, `effect`, `tick`, `happen`
 pub stands-once : {n clock : ℕ} {tail : List Record} {sets columns : List ℕ} {m k : Marking} → Stands n tail clock sets columns m
     → Stands n tail clock sets columns k → m ≡ k
 stands-once p q = p .is ∙ sym (q .is)

@@ -13,5 +13,5 @@ pub mod Waiting
 pub mod Answering
 pub mod Acting
 pub mod Effected
-pub mod Asked
+pub mod Happen
 pub mod Blocking

@@ -2,23 +2,22 @@
 use crate::guard;
 use crate::reasons;
 use crate::reasons::Finding;
-use acts::ask;
 use acts::derived;
 use acts::derived::Head;
+use acts::happen;
 use acts::laid::Columns;
 use acts::time;
 use rules::Step;
 ghost use mathlib.Core.Path.{_≡_};
-ghost use mathlib.Core.Bool.{true, _&&_, _||_, cond};
+ghost use mathlib.Core.Bool.{true, cond};
 ghost use mathlib.Core.List.{List};
 ghost use Prim.Native.Nat.{ℕ, _<_, _≤_, _+_};
-ghost use lib.Dec.{eqb};
 ghost use lib.ListN.{length};
 ghost use Rattle.rules.specs.declared.Record.{Record};
 ghost use Rattle.rules.specs.declared.Marking.{Marking};
 ghost use Rattle.rules.specs.declared.Table.{Table};
 ghost use Rattle.rules.specs.declared.CheckAnswer.the-variants.{Accepts};
-ghost use Rattle.rules.specs.Numbers.{done, checkNumber};
+ghost use Rattle.rules.specs.Numbers.{checkNumber};
 ghost use Rattle.rules.specs.Check.{verdict};
 ghost use Rattle.rules.specs.Time.{time, plainTickNumber};
 ghost use Rattle.rules.specs.Guard.{guarded};
@@ -125,18 +124,9 @@ pub fn step(
         → Turned t tail m accepted kind event r (now (sets .exit)) (now (columns .exit))) ⌝ }
 {
     let e = event as usize;
-    if kind <= Step::REPORT {
-        let number = ask::ask(
-            rows,
-            derived::WIDTH * e,
-            links,
-            head,
-            clock,
-            sets,
-            columns,
-            e,
-            kind == Step::REQUEST,
-        );
+    if kind <= Step::LAST_HAPPEN {
+        let at = derived::WIDTH * e;
+        let number = happen::happen(rows, at, links, head, clock, sets, columns, e);
         return Stepped {
             number,
             clock,

@@ -1,6 +1,7 @@
 -- A C caller's chain of the exported calls on one table image and one marking buffer, and what the caller is answered at its end. It speaks of
 -- the contracts themselves, as the check reads them, and of what the calls leave in the buffers. Definitions only.
 use mathlib.Core.Path.{_≡_}
+use mathlib.Core.Bool.{false}
 use mathlib.Core.List.{List, [], _∷_, _++_}
 use Prim.Native.Nat.{ℕ, _+_, _*_, _<_, _≤_}
 use lib.ListN.{length, getD, take, drop}
@@ -9,19 +10,18 @@ use denote.Triple.Clauses.{AtExit}
 use borrow.Fn.Kinds.{PK, RK, Out, Dens, resT, endedOf}
 use Rattle.rules.specs.declared.Step.{Step}
 use Rattle.rules.specs.Numbers.{done}
+use Rattle.rules.specs.Holds.{isControllable}
 use Rattle.rules.specs.Image.{markingImage}
 use Rattle.rules.specs.Time.{time}
 use Rattle.rules.specs.Remedy.{effects}
-use Rattle.rules.specs.Trace.{requestKind, reportKind, plainTickKind, guardedTickKind, endOf, stepsIn}
+use Rattle.rules.specs.Trace.{happenKind, plainTickKind, guardedTickKind, endOf, stepsIn}
 use Rattle.rules.specs.Images.{tableOf, markingOf}
 use Rattle.rules.specs.Promised.{Promise}
 use Rattle.rules.specs.History.{Act, executes, passes, after, passesIn, thenPass, historyOf}
 use Rattle.rules.specs.Deadline.{Duty, Settles, Met}
 use Rattle.rules.specs.Calls.{step, Caused}
-use Rattle.duty.proofs.duty_request.Kinds as request-kinds
-use Rattle.duty.proofs.duty_request.Reads as request
-use Rattle.duty.proofs.duty_report.Kinds as report-kinds
-use Rattle.duty.proofs.duty_report.Reads as report
+use Rattle.duty.proofs.duty_happen.Kinds as happen-kinds
+use Rattle.duty.proofs.duty_happen.Reads as happen
 use Rattle.duty.proofs.duty_plain_tick.Kinds as plain-tick-kinds
 use Rattle.duty.proofs.duty_plain_tick.Reads as plain-tick
 use Rattle.duty.proofs.duty_check.Kinds as check-kinds
@@ -44,11 +44,8 @@ pub record Made (n : ℕ) (ps : List (PK n)) (r : RK n) (promise : Out n ps r) :
   pub left : AtExit (endedOf n ps r) lifetimes
   pub promised : promise lifetimes handed answer left
 
-abbrev pub Request : Type 0
-Request = Made 2 request-kinds.ps request-kinds.r request.Learnt
-
-abbrev pub Report : Type 0
-Report = Made 2 report-kinds.ps report-kinds.r report.Learnt
+abbrev pub Happen : Type 0
+Happen = Made 2 happen-kinds.ps happen-kinds.r happen.Learnt
 
 abbrev pub PlainTick : Type 0
 PlainTick = Made 2 plain-tick-kinds.ps plain-tick-kinds.r plain-tick.Learnt
@@ -79,10 +76,8 @@ listed call = take (count call) (call .left .1 .1 .0 .now)
 -- trace that is refused has none, and so have offered lists
 pub data Chained (table : List ℕ) : List ℕ → List Step → List ℕ → Type 0 where
   none : {marking : List ℕ} → Chained table marking [] marking
-  requested : {marking end : List ℕ} {steps : List Step} (call : Request) → call .handed .0 .now ≡ table → call .handed .1 .0 .now ≡ marking
-      → Chained table (call .left .1 .0 .now) steps end → Chained table marking (step requestKind (call .handed .1 .1 .0) ∷ steps) end
-  reported : {marking end : List ℕ} {steps : List Step} (call : Report) → call .handed .0 .now ≡ table → call .handed .1 .0 .now ≡ marking
-      → Chained table (call .left .1 .0 .now) steps end → Chained table marking (step reportKind (call .handed .1 .1 .0) ∷ steps) end
+  happened : {marking end : List ℕ} {steps : List Step} (call : Happen) → call .handed .0 .now ≡ table → call .handed .1 .0 .now ≡ marking
+      → Chained table (call .left .1 .0 .now) steps end → Chained table marking (step happenKind (call .handed .1 .1 .0) ∷ steps) end
   ticked : {marking end : List ℕ} {steps : List Step} (call : PlainTick) → call .handed .0 .now ≡ table → call .handed .1 .0 .now ≡ marking
       → Chained table (call .left .1 .0 .now) steps end → Chained table marking (step plainTickKind 0 ∷ steps) end
   guardedly : {marking end : List ℕ} {steps : List Step} (call : GuardedTick) → call .handed .0 .now ≡ table → call .handed .1 .0 .now ≡ marking
@@ -97,8 +92,7 @@ pub data Chained (table : List ℕ) : List ℕ → List Step → List ℕ → Ty
 -- what a chain comes to, read off the answers and the buffers: a call that was refused comes to nothing, and so do offered lists
 unfoldable pub actsIn : {table marking end : List ℕ} {steps : List Step} → Chained table marking steps end → List Act
 actsIn none = []
-actsIn (requested call p q rest) = done (call .answer) (executes (call .handed .1 .1 .0) ∷ []) [] ++ actsIn rest
-actsIn (reported call p q rest) = done (call .answer) (executes (call .handed .1 .1 .0) ∷ []) [] ++ actsIn rest
+actsIn (happened call p q rest) = done (call .answer) (executes (call .handed .1 .1 .0) ∷ []) [] ++ actsIn rest
 actsIn (ticked call p q rest) = done (call .answer) (passes ∷ []) [] ++ actsIn rest
 actsIn (guardedly call p q rest) = done (call .answer) (thenPass (listed call)) [] ++ actsIn rest
 actsIn {table} {marking} (ran call p q rest) =
@@ -128,8 +122,9 @@ pub record Answered (table marking : List ℕ) : Type 0 where
       (i : ℕ) → 2 * i + 1 < length bytes → getD bytes (2 * i) 0 ≡ guardedTickKind → getD bytes (2 * i + 1) 0 ≡ 0
       → (getD (call .left .1 .1 .1 .0 .now) i 0 ≡ 0)
       × Promise (tableOf table) (endOf (tableOf table) (markingOf table marking) (stepsIn (take (2 * i) bytes)))
-  -- no report is answered 10
-  pub heard : (call : Report) → call .handed .0 .now ≡ table → call .handed .1 .0 .now ≡ marking → call .answer ≡ 10 → ⊥
+  -- an uncontrollable event that happens is always done
+  pub heard : (call : Happen) → call .handed .0 .now ≡ table → call .handed .1 .0 .now ≡ marking → let e = call .handed .1 .1 .0 in
+      e < tableOf table .events → isControllable (tableOf table) e ≡ false → call .answer ≡ 0
   -- an included event that is to be done within d ticks, here or at any point of a chain of calls from here, is executed, given a new deadline
   -- or excluded before the (d + 1)th tick from then passes
   pub kept : {end : List ℕ} {steps : List Step} (calls : Chained table marking steps end) (before rest : List Act) → actsIn calls ≡ before ++ rest

@@ -19,7 +19,7 @@ use Rattle.rules.specs.declared.CheckAnswer.the-variants.{Accepts}
 use Rattle.rules.specs.Numbers.{_else_, done, checkNumber}
 use Rattle.rules.specs.Judge.{judged}
 use Rattle.rules.specs.Image.{markingImage}
-use Rattle.rules.specs.Ask.{requestNumber, request, reportNumber, report}
+use Rattle.rules.specs.Happen.{happenNumber, happen}
 use Rattle.rules.specs.Effect.{effect}
 use Rattle.rules.specs.Time.{time, plainTickNumber, plainTick}
 use Rattle.rules.specs.Check.{check, toldCheck}
@@ -29,7 +29,7 @@ use Rattle.rules.specs.Trace.{guardedTickKind, endOf, stepsIn, bytesNumber, run
 use Rattle.rules.specs.Images.{tableOf, markingOf, imagesNumber, on, putBack, guardNumber}
 use Rattle.rules.specs.History.{Act, executes, passes, thenPass, historyOf}
 use Rattle.rules.specs.Calls.{step, Calls, Caused}
-use Rattle.rules.specs.Calls.{none as engine-none, requested as engine-requested, reported as engine-reported, ticked as engine-ticked}
+use Rattle.rules.specs.Calls.{none as engine-none, happened as engine-happened, ticked as engine-ticked}
 use Rattle.rules.specs.Calls.{guardedly as engine-guardedly, ran-bytes as engine-ran, offered as engine-offered, actsIn as engineActs, listed as engineListed}
 use Rattle.rules.specs.Calls.{Answered as EngineAnswered}
 use Rattle.rules.specs.Laws.Check.{verdict-done}
@@ -45,8 +45,8 @@ use Rattle.rules.specs.Demand3.Runner.{run-bytes-grants}
 use Rattle.duty.specs.Laws.Images.{read-judged}
 use Rattle.duty.specs.Laws.ReadBack.{AsRead, effect-as-read, time-as-read, effects-as-read, after-as-read, as-read, put-back}
 use Rattle.duty.specs.Laws.Guarded.{caused-is}
-use Rattle.duty.proofs.Chained.{Request, Report, PlainTick, Check, GuardedTick, Run, count, listed}
-use Rattle.duty.proofs.Chained.{Chained, none, requested, reported, ticked, guardedly, ran, offered, actsIn, Answered}
+use Rattle.duty.proofs.Chained.{Happen, PlainTick, Check, GuardedTick, Run, count, listed}
+use Rattle.duty.proofs.Chained.{Chained, none, happened, ticked, guardedly, ran, offered, actsIn, Answered}
 
 -- a check without a number accepts
 accepts : (t : Table) (m : Marking) → judged t m ≡ 0 → checkNumber (check t m) ≡ 0 → check t m ≡ Accepts
@@ -88,17 +88,11 @@ module _ (table marking : List ℕ) (read : imagesNumber table marking ≡ 0) wh
       let back = put-back table marking read own acted put (e ∙ ap (λ (k : ℕ). putBack k (done own acted m) marking) same) h a in
       record { told = same; reads = back .0; holds = back .1 }
 
-  after-request : (e number : ℕ) (put : List ℕ) → number ≡ (imagesNumber table marking else request t m e .number)
-      → put ≡ putBack number (request t m e .marking) marking → Next (request t m e) number put
-  unfolding request
-  after-request e number put n p =
-      next number (judged t m else requestNumber t m e) (effect t m e) put n p (effect-judged t m e judged-done) (effect-as-read t m e first-read)
-
-  after-report : (e number : ℕ) (put : List ℕ) → number ≡ (imagesNumber table marking else report t m e .number)
-      → put ≡ putBack number (report t m e .marking) marking → Next (report t m e) number put
-  unfolding report
-  after-report e number put n p =
-      next number (judged t m else reportNumber t m e) (effect t m e) put n p (effect-judged t m e judged-done) (effect-as-read t m e first-read)
+  after-happen : (e number : ℕ) (put : List ℕ) → number ≡ (imagesNumber table marking else happen t m e .number)
+      → put ≡ putBack number (happen t m e .marking) marking → Next (happen t m e) number put
+  unfolding happen
+  after-happen e number put n p =
+      next number (judged t m else happenNumber t m e) (effect t m e) put n p (effect-judged t m e judged-done) (effect-as-read t m e first-read)
 
   after-tick : (number : ℕ) (put : List ℕ) → number ≡ (imagesNumber table marking else plainTick t m .number)
       → put ≡ putBack number (plainTick t m .marking) marking → Next (plainTick t m) number put
@@ -158,15 +152,10 @@ module _ (table marking : List ℕ) (number bytes old told : ℕ) (before put li
 
 -- what the promises say, of the images
 module _ {table marking : List ℕ} where
-  request-said : (call : Request) → call .handed .0 .now ≡ table → call .handed .1 .0 .now ≡ marking → let e = call .handed .1 .1 .0 in
-      (call .answer ≡ (imagesNumber table marking else on request table marking e .number))
-      × (call .left .1 .0 .now ≡ putBack (call .answer) (on request table marking e .marking) marking)
-  request-said call p q = rw (← p, ← q) (call .promised)
-
-  report-said : (call : Report) → call .handed .0 .now ≡ table → call .handed .1 .0 .now ≡ marking → let e = call .handed .1 .1 .0 in
-      (call .answer ≡ (imagesNumber table marking else on report table marking e .number))
-      × (call .left .1 .0 .now ≡ putBack (call .answer) (on report table marking e .marking) marking)
-  report-said call p q = rw (← p, ← q) (call .promised)
+  happen-said : (call : Happen) → call .handed .0 .now ≡ table → call .handed .1 .0 .now ≡ marking → let e = call .handed .1 .1 .0 in
+      (call .answer ≡ (imagesNumber table marking else on happen table marking e .number))
+      × (call .left .1 .0 .now ≡ putBack (call .answer) (on happen table marking e .marking) marking)
+  happen-said call p q = rw (← p, ← q) (call .promised)
 
   tick-said : (call : PlainTick) → call .handed .0 .now ≡ table → call .handed .1 .0 .now ≡ marking
       → (call .answer ≡ (imagesNumber table marking else on plainTick table marking .number))
@@ -241,27 +230,15 @@ pub follows : {table marking end : List ℕ} {steps : List Step} (calls : Chaine
     → (imagesNumber table end ≡ 0) × Along (tableOf table) (markingOf table marking) steps (markingOf table end) (actsIn calls)
 unfolding actsIn engineActs
 follows none read = (read, record { calls = engine-none; same = refl })
-follows {table} (requested {marking} {end} {steps} call p q rest) read =
+follows {table} (happened {marking} {end} {steps} call p q rest) read =
     let e = call .handed .1 .1 .0 in
-    let s = request-said call p q in
-    let n = after-request table marking read e (call .answer) (call .left .1 .0 .now) (s .0) (s .1) in
+    let s = happen-said call p q in
+    let n = after-happen table marking read e (call .answer) (call .left .1 .0 .now) (s .0) (s .1) in
     let then = follows rest (n .reads) in
     let a = from table marking read n (then .1) in (
       then .0,
       record {
-        calls = engine-requested e (request (tableOf table) (markingOf table marking) e) refl (a .calls);
-        same = act-same (executes e ∷ []) (n .told) (a .same);
-      },
-    )
-follows {table} (reported {marking} {end} {steps} call p q rest) read =
-    let e = call .handed .1 .1 .0 in
-    let s = report-said call p q in
-    let n = after-report table marking read e (call .answer) (call .left .1 .0 .now) (s .0) (s .1) in
-    let then = follows rest (n .reads) in
-    let a = from table marking read n (then .1) in (
-      then .0,
-      record {
-        calls = engine-reported e (report (tableOf table) (markingOf table marking) e) refl (a .calls);
+        calls = engine-happened e (happen (tableOf table) (markingOf table marking) e) refl (a .calls);
         same = act-same (executes e ∷ []) (n .told) (a .same);
       },
     )
@@ -337,9 +314,9 @@ answered table marking read answers =
           let lent = call .handed .1 .1 .1 .0 .now in
           run-bytes-grants t m (answers .checked (check t m) refl) bytes i b kind event lent (call .left .1 .1 .1 .0 .now)
           (runBytes t m bytes (length lent)) refl (sym (s .0 ∙ else-done _ read) ∙ h) (s .2 ∙ rw h);
-      heard = λ call p q ten.
+      heard = λ call p q b h.
           let e = call .handed .1 .1 .0 in
-          answers .heard e (report t m e) refl (sym (report-said call p q .0 ∙ else-done _ read) ∙ ten);
+          happen-said call p q .0 ∙ else-done _ read ∙ answers .heard e (happen t m e) refl b h;
       kept = λ {end} {steps} calls before rest split.
           let f = follows calls read .1 in
           answers .kept (f .calls) before rest (f .same ∙ split);

@@ -28,10 +28,8 @@ use Rattle.duty.proofs.duty_enabled.Kinds as enabled-kinds
 use Rattle.duty.proofs.duty_enabled.Reads as enabled
 use Rattle.duty.proofs.duty_due.Kinds as due-kinds
 use Rattle.duty.proofs.duty_due.Reads as due
-use Rattle.duty.proofs.duty_request.Kinds as request-kinds
-use Rattle.duty.proofs.duty_request.Reads as request
-use Rattle.duty.proofs.duty_report.Kinds as report-kinds
-use Rattle.duty.proofs.duty_report.Reads as report
+use Rattle.duty.proofs.duty_happen.Kinds as happen-kinds
+use Rattle.duty.proofs.duty_happen.Reads as happen
 use Rattle.duty.proofs.duty_plain_tick.Kinds as plain-tick-kinds
 use Rattle.duty.proofs.duty_plain_tick.Reads as plain-tick
 use Rattle.duty.proofs.duty_margin.Kinds as margin-kinds
@@ -100,13 +98,9 @@ pub due-once : Agree 3 due-kinds.ps due-kinds.r due.Learnt
     (λ κs one other x y. (one ≡ other) × (x .1 .1 .0 .now ≡ y .1 .1 .0 .now))
 due-once κs a one other x y p q = let same = p .0 ∙ sym (q .0) in (same, told _ _ same (p .1) (q .1))
 
-pub request-once : Agree 2 request-kinds.ps request-kinds.r request.Learnt
+pub happen-once : Agree 2 happen-kinds.ps happen-kinds.r happen.Learnt
     (λ κs one other x y. (one ≡ other) × (x .1 .0 .now ≡ y .1 .0 .now))
-request-once κs a one other x y p q = let same = p .0 ∙ sym (q .0) in (same, told _ _ same (p .1) (q .1))
-
-pub report-once : Agree 2 report-kinds.ps report-kinds.r report.Learnt
-    (λ κs one other x y. (one ≡ other) × (x .1 .0 .now ≡ y .1 .0 .now))
-report-once κs a one other x y p q = let same = p .0 ∙ sym (q .0) in (same, told _ _ same (p .1) (q .1))
+happen-once κs a one other x y p q = let same = p .0 ∙ sym (q .0) in (same, told _ _ same (p .1) (q .1))
 
 pub plain-tick-once : Agree 2 plain-tick-kinds.ps plain-tick-kinds.r plain-tick.Learnt
     (λ κs one other x y. (one ≡ other) × (x .1 .0 .now ≡ y .1 .0 .now))

@@ -8,14 +8,13 @@ use Rattle.rules.specs.declared.Marking.{Marking}
 use Rattle.rules.specs.declared.MarkingAnswer.{MarkingAnswer}
 use Rattle.rules.specs.Judge.{markingNumber}
 use Rattle.rules.specs.Image.{recordBytes}
-use Rattle.rules.specs.Ask.{request, report}
+use Rattle.rules.specs.Happen.{happen}
 use Rattle.rules.specs.Time.{plainTick}
 use Rattle.duty.specs.declared.acting.Act.{Act}
-use Rattle.duty.specs.declared.acting.Act.the-variants.{Request, Report, PlainTick}
+use Rattle.duty.specs.declared.acting.Act.the-variants.{Happen, PlainTick}
 
 abbrev pub acted : Act → Table → Marking → MarkingAnswer
-acted (Request event) t m = request t m event
-acted (Report event) t m = report t m event
+acted (Happen event) t m = happen t m event
 acted PlainTick t m = plainTick t m
 
 -- a marking whose image fills the buffer

@@ -9,8 +9,7 @@ ghost use Rattle.rules.specs.Images.{imagesNumber, on, putBack};
 ghost use Rattle.duty.specs.Performing.{acted, Fills};
 
 pub enum Act {
-    Request(usize),
-    Report(usize),
+    Happen(usize),
     PlainTick,
 }
 
@@ -18,8 +17,7 @@ fn answer(t: Table, m: Marking, act: Act) -> MarkingAnswer
     ensures { λ r. ⌜ r ≡ acted act t m ⌝ }
 {
     match act {
-        Act::Request(event) => engine::request(t, m, event),
-        Act::Report(event) => engine::report(t, m, event),
+        Act::Happen(event) => engine::happen(t, m, event),
         Act::PlainTick => engine::plain_tick(t, m),
     }
 }

@@ -24,7 +24,7 @@ ghost use Rattle.rules.specs.Fields.{bit};
 ghost use Rattle.rules.specs.Image.{readTable, classByte, recordBytes, markingImage, fresh};
 ghost use Rattle.rules.specs.Carrying.{carryNumber, carryMarking};
 ghost use Rattle.rules.specs.Enabled.{enabledAnswer};
-ghost use Rattle.rules.specs.Ask.{request, report};
+ghost use Rattle.rules.specs.Happen.{happen};
 ghost use Rattle.rules.specs.Time.{dueAnswer, plainTick};
 ghost use Rattle.rules.specs.Margin.{toldMargin};
 ghost use Rattle.rules.specs.HoldUp.{toldHoldUp};
@@ -218,24 +218,14 @@ pub extern "C" fn duty_due(table: &[u8], marking: &[u8], set: &mut u64) -> u8
     number
 }
 
-// A controllable event is executed, if enabled.
+// An event happens: whatever its class, it is executed, if enabled.
 #[no_mangle]
-pub extern "C" fn duty_request(table: &[u8], marking: &mut [u8], event: usize) -> u8
+pub extern "C" fn duty_happen(table: &[u8], marking: &mut [u8], event: usize) -> u8
     ensures number { λ r. ⌜ r
-        ≡ (imagesNumber (now (table .entry)) (now (marking .entry)) else on request (now (table .entry)) (now (marking .entry)) event .number) ⌝ }
-    ensures marking { λ r. ⌜ now (marking .exit) ≡ putBack r (on request (now (table .entry)) (now (marking .entry)) event .marking) (now (marking .entry)) ⌝ }
+        ≡ (imagesNumber (now (table .entry)) (now (marking .entry)) else on happen (now (table .entry)) (now (marking .entry)) event .number) ⌝ }
+    ensures marking { λ r. ⌜ now (marking .exit) ≡ putBack r (on happen (now (table .entry)) (now (marking .entry)) event .marking) (now (marking .entry)) ⌝ }
 {
-    acting::perform(table, marking, Act::Request(event))
-}
-
-// An uncontrollable event is executed, if enabled.
-#[no_mangle]
-pub extern "C" fn duty_report(table: &[u8], marking: &mut [u8], event: usize) -> u8
-    ensures number { λ r. ⌜ r
-        ≡ (imagesNumber (now (table .entry)) (now (marking .entry)) else on report (now (table .entry)) (now (marking .entry)) event .number) ⌝ }
-    ensures marking { λ r. ⌜ now (marking .exit) ≡ putBack r (on report (now (table .entry)) (now (marking .entry)) event .marking) (now (marking .entry)) ⌝ }
-{
-    acting::perform(table, marking, Act::Report(event))
+    acting::perform(table, marking, Act::Happen(event))
 }
 
 // One tick passes, unless an event is due.

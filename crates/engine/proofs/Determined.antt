@@ -13,10 +13,8 @@ use Rattle.engine.proofs.enabled.Kinds as enabled-kinds
 use Rattle.engine.proofs.enabled.Reads as enabled-reads
 use Rattle.engine.proofs.due.Kinds as due-kinds
 use Rattle.engine.proofs.due.Reads as due-reads
-use Rattle.engine.proofs.request.Kinds as request-kinds
-use Rattle.engine.proofs.request.Reads as request-reads
-use Rattle.engine.proofs.report.Kinds as report-kinds
-use Rattle.engine.proofs.report.Reads as report-reads
+use Rattle.engine.proofs.happen.Kinds as happen-kinds
+use Rattle.engine.proofs.happen.Reads as happen-reads
 use Rattle.engine.proofs.plain_tick.Kinds as plain-tick-kinds
 use Rattle.engine.proofs.plain_tick.Reads as plain-tick-reads
 use Rattle.engine.proofs.margin.Kinds as margin-kinds
@@ -48,11 +46,8 @@ enabled-determined κs a x y s s′ p q = p ∙ sym q
 pub due-determined : Determined due-kinds.ps due-kinds.r due-reads.Post
 due-determined κs a x y s s′ p q = p ∙ sym q
 
-pub request-determined : Determined request-kinds.ps request-kinds.r request-reads.Post
-request-determined κs a x y s s′ p q = p ∙ sym q
-
-pub report-determined : Determined report-kinds.ps report-kinds.r report-reads.Post
-report-determined κs a x y s s′ p q = p ∙ sym q
+pub happen-determined : Determined happen-kinds.ps happen-kinds.r happen-reads.Post
+happen-determined κs a x y s s′ p q = p ∙ sym q
 
 pub plain-tick-determined : Determined plain-tick-kinds.ps plain-tick-kinds.r plain-tick-reads.Post
 plain-tick-determined κs a x y s s′ p q = p ∙ sym q

@@ -1,6 +1,6 @@
 // The engine's public calls. Each judges the decoded table, then the marking, then its own numbers, and promises its definition in the
 // crate `rules`, whole.
-mod asking;
+mod happening;
 mod heard;
 mod refusing;
 mod remedy;
@@ -35,7 +35,7 @@ ghost use Rattle.rules.specs.Numbers.{marginInNumbers, holdUpInNumbers, checkIn
 ghost use Rattle.rules.specs.EventSet.{sizeOf, lowestOf};
 ghost use Rattle.rules.specs.Enabled.{enabledAnswer};
 ghost use Rattle.rules.specs.Time.{dueAnswer, plainTick};
-ghost use Rattle.rules.specs.Ask.{request, report};
+ghost use Rattle.rules.specs.Happen.{happen};
 ghost use Rattle.rules.specs.Margin.{margin, toldMargin};
 ghost use Rattle.rules.specs.HoldUp.{holdUp, toldHoldUp};
 ghost use Rattle.rules.specs.Closure.{closureAnswer};
@@ -90,24 +90,13 @@ pub fn due(t: Table, m: Marking) -> SetAnswer
     SetAnswer { number, set: 0 }
 }
 
-// A controllable event is executed, if enabled.
-pub fn request(t: Table, m: Marking, event: usize) -> MarkingAnswer
-    ensures { λ r. ⌜ r ≡ request t m event ⌝ }
+// An event happens: whatever its class, it is executed, if enabled.
+pub fn happen(t: Table, m: Marking, event: usize) -> MarkingAnswer
+    ensures { λ r. ⌜ r ≡ happen t m event ⌝ }
 {
     let number = judging::then_marking(image::judge_table(t), t.events, m);
     if number == 0 {
-        return asking::asked(t, m, event, true);
-    }
-    MarkingAnswer { number, marking: m }
-}
-
-// An uncontrollable event is executed, if enabled.
-pub fn report(t: Table, m: Marking, event: usize) -> MarkingAnswer
-    ensures { λ r. ⌜ r ≡ report t m event ⌝ }
-{
-    let number = judging::then_marking(image::judge_table(t), t.events, m);
-    if number == 0 {
-        return asking::asked(t, m, event, false);
+        return happening::happened(t, m, event);
     }
     MarkingAnswer { number, marking: m }
 }

@@ -1,7 +1,7 @@
 -- A caller chains the engine's public calls, each handed the marking that the one before answered. What is said here speaks of what the calls
 -- promise, that an answer is the one defined, and of the answers' fields.
 use mathlib.Core.Path.{_≡_}
-use mathlib.Core.Bool.{true}
+use mathlib.Core.Bool.{true, false}
 use mathlib.Core.List.{List, [], _∷_, _++_}
 use Prim.Native.Nat.{ℕ, _<_, _≤_, _-_}
 use lib.ListN.{length, getD, take, drop, replicate}
@@ -16,15 +16,15 @@ use Rattle.rules.specs.declared.GuardedAnswer.{GuardedAnswer}
 use Rattle.rules.specs.declared.RemedyAnswer.{RemedyAnswer}
 use Rattle.rules.specs.Numbers.{done}
 use Rattle.rules.specs.EventSet.{has}
-use Rattle.rules.specs.Holds.{mostEvents, isCausable}
+use Rattle.rules.specs.Holds.{mostEvents, isControllable, isCausable}
 use Rattle.rules.specs.Enabled.{isEnabled}
 use Rattle.rules.specs.Time.{time, dueAnswer, plainTick}
-use Rattle.rules.specs.Ask.{request, report}
+use Rattle.rules.specs.Happen.{happen}
 use Rattle.rules.specs.Closure.{closureAnswer}
 use Rattle.rules.specs.Check.{check}
 use Rattle.rules.specs.Guard.{guardedTick}
 use Rattle.rules.specs.Remedy.{effects, remedy}
-use Rattle.rules.specs.Trace.{requestKind, reportKind, plainTickKind, guardedTickKind, stepsIn, run, runBytes}
+use Rattle.rules.specs.Trace.{happenKind, plainTickKind, guardedTickKind, stepsIn, run, runBytes}
 use Rattle.rules.specs.History.{Act, executes, passes, after, passesIn, thenPass, historyOf}
 use Rattle.rules.specs.Deadline.{Duty, Settles, Met}
 
@@ -34,10 +34,8 @@ step kind event = record { kind = kind; event = event }
 -- a chain of calls from one marking to another, and its steps; a trace that the runner refuses has none, and so have offered lists
 pub data Calls (t : Table) : Marking → List Step → Marking → Type 0 where
   none : {m : Marking} → Calls t m [] m
-  requested : {m end : Marking} {steps : List Step} (e : ℕ) (answer : MarkingAnswer) → answer ≡ request t m e
-      → Calls t (answer .marking) steps end → Calls t m (step requestKind e ∷ steps) end
-  reported : {m end : Marking} {steps : List Step} (e : ℕ) (answer : MarkingAnswer) → answer ≡ report t m e
-      → Calls t (answer .marking) steps end → Calls t m (step reportKind e ∷ steps) end
+  happened : {m end : Marking} {steps : List Step} (e : ℕ) (answer : MarkingAnswer) → answer ≡ happen t m e
+      → Calls t (answer .marking) steps end → Calls t m (step happenKind e ∷ steps) end
   ticked : {m end : Marking} {steps : List Step} (answer : MarkingAnswer) → answer ≡ plainTick t m
       → Calls t (answer .marking) steps end → Calls t m (step plainTickKind 0 ∷ steps) end
   guardedly : {m end : Marking} {steps : List Step} (answer : GuardedAnswer) → answer ≡ guardedTick t m
@@ -57,8 +55,7 @@ listed answer = take (answer .count) (answer .caused)
 -- what a chain comes to, read off its answers: a call that was refused comes to nothing
 unfoldable pub actsIn : {t : Table} {m end : Marking} {steps : List Step} → Calls t m steps end → List Act
 actsIn none = []
-actsIn (requested e answer is rest) = done (answer .number) (executes e ∷ []) [] ++ actsIn rest
-actsIn (reported e answer is rest) = done (answer .number) (executes e ∷ []) [] ++ actsIn rest
+actsIn (happened e answer is rest) = done (answer .number) (executes e ∷ []) [] ++ actsIn rest
 actsIn (ticked answer is rest) = done (answer .number) (passes ∷ []) [] ++ actsIn rest
 actsIn (guardedly answer is rest) = done (answer .number) (thenPass (listed answer)) [] ++ actsIn rest
 actsIn {t} {m} (ran played room answer is rest) = done (answer .number) (historyOf t m played) [] ++ actsIn rest
@@ -94,8 +91,8 @@ pub record Answered (t : Table) (m : Marking) : Type 0 where
   pub checked : (answer : CheckAnswer) → answer ≡ check t m → answer ≡ Accepts
   -- a guarded tick keeps its promise
   pub ticks : (answer : GuardedAnswer) → answer ≡ guardedTick t m → Ticked t m answer
-  -- no report is answered 10
-  pub heard : (e : ℕ) (answer : MarkingAnswer) → answer ≡ report t m e → answer .number ≡ 10 → ⊥
+  -- an uncontrollable event that happens is always done
+  pub heard : (e : ℕ) (answer : MarkingAnswer) → answer ≡ happen t m e → e < t .events → isControllable t e ≡ false → answer .number ≡ 0
   -- an included event that is to be done within d ticks, here or at any point of a chain of calls from here, is executed, given a new deadline
   -- or excluded before the (d + 1)th tick from then passes
   pub kept : {end : Marking} {steps : List Step} (calls : Calls t m steps end) (before rest : List Act) → actsIn calls ≡ before ++ rest

@@ -43,7 +43,7 @@ use Rattle.rules.specs.Carrying.{carriedAt, carried, carryNumber, carryM
 use Rattle.rules.specs.Enabled.{stops, blocks, isEnabled, enabledAnswer}
 use Rattle.rules.specs.Effect.{withDeadline, excludes, includes, given, smallest, executed, withInclusion, effectAt, effect}
 use Rattle.rules.specs.Time.{isDue, anyDue, dueSet, later, time, plainTickNumber, plainTick, dueAnswer}
-use Rattle.rules.specs.Ask.{requestNumber, reportNumber, request, report}
+use Rattle.rules.specs.Happen.{happenNumber, happen}
 use Rattle.rules.specs.Margin.{restOf, marginOf, margin, toldMargin}
 use Rattle.rules.specs.HoldUp.{wouldBlock, holdUpOf, holdUp, toldHoldUp}
 use Rattle.rules.specs.Chain.{Link, link, along, visit, chain, chainNumber, chainAnswer, placesOf, chainList}
@@ -62,7 +62,7 @@ use Rattle.rules.specs.Shop as shop
 pub data Question : Type 0 where
   checked : Question
   closed : Question
-  requested : ℕ → Question
+  happens : ℕ → Question
   held : ℕ → Question
   ticked : Question
   guardedly : Question
@@ -82,7 +82,6 @@ pub data Question : Type 0 where
   lowestAsked : ℕ → Question
   enabledNow : ℕ → Question
   dueNow : Question
-  reported : ℕ → Question
   aged : ℕ → Question
   runOf : List ℕ → ℕ → Question
   runBuffer : List ℕ → List ℕ → Question
@@ -138,7 +137,7 @@ causedIn t m (s ∷ rest) = cond (eqb (s .kind) guardedTickKind) (caused t m) []
 unfoldable pub answer : Table → Marking → Question → Answer
 answer t m checked = verdicts (check t m)
 answer t m closed = closes (closureAnswer t m)
-answer t m (requested e) = number (request t m e .number)
+answer t m (happens e) = marks (happen t m e)
 answer t m (held e) = hold (holdUp t m e)
 answer t m ticked = number (plainTick t m .number)
 answer t m guardedly = passed (guardedTick t m)
@@ -158,7 +157,6 @@ answer t m (sizeAsked w) = number (sizeOf w)
 answer t m (lowestAsked w) = number (lowestOf w)
 answer t m (enabledNow e) = enables (enabledAnswer t m e)
 answer t m dueNow = set (dueAnswer t m)
-answer t m (reported e) = marks (report t m e)
 answer t m (aged e) = is (recordOf (plainTick t m .marking) e)
 answer t m (runOf steps room) = marks (runBytes t m steps room)
 answer t m (runBuffer steps buffer) = bytes (runBytesAnswers t m steps buffer)
@@ -200,13 +198,16 @@ remedyIs n second l = remedies (record { number = n; fallback = second; length =
 abbrev causes : List ℕ → Marking → Answer
 causes es m = passed (record { number = 0; reason = 0; place = 0; caused = es ++ replicate (64 - length es) 0; count = length es; marking = m })
 
+abbrev refusal : ℕ → Marking → MarkingAnswer
+refusal n m = record { number = n; marking = m }
+
 unfoldable pub worked : List Case
 worked =
     -- P is accepted; closure {1, 2, 4}
     after [] checked (verdicts Accepts)
     ∷ after [] closed (closureIs (2 ^ 1 + 2 ^ 2 + 2 ^ 4) 3)
-    -- after leak, request flush: 10, hold-up relation 1
-    ∷ after (shop.leak ∷ []) (requested 1) (number 10)
+    -- after leak, flush happens: 10, hold-up relation 1
+    ∷ after (shop.leak ∷ []) (happens 1) (marks (refusal 10 (endOf shop.P shop.start (shop.leak ∷ []))))
     ∷ after (shop.leak ∷ []) (held 1) (hold (Blocked 1))
     -- leak, three guarded ticks: none caused; flush deadline 0. A plain tick: 11. A guarded tick: causes 2, 4, 1
     ∷ after [] (causedAlong shop.leakThenThree) (events [])
@@ -256,7 +257,7 @@ mistakes =
     ∷ asks shop.waits5 (endOf shop.waits5 (shop.marking (shop.pendingWithin false 2 ∷ shop.idle ∷ [])) (shop.plain ∷ [])) (state 0)
     (is (shop.pendingWithin false 1))
     -- Applying effects before clearing e, which loses a self-response
-    ∷ asks selfResponse (endOf selfResponse (shop.marking (shop.idle ∷ [])) (shop.request 0 ∷ [])) (state 0)
+    ∷ asks selfResponse (endOf selfResponse (shop.marking (shop.idle ∷ [])) (shop.happens 0 ∷ [])) (state 0)
     (is (record { age = 0; deadline = 3; happened = true; included = true; pending = true; bounded = true; count = 1 }))
     -- Keeping the smaller of old and new deadline, where the table is not firm
     ∷ after shop.leakTwice (state 1) (is (shop.pendingWithin true 3))
@@ -325,9 +326,9 @@ turning =
     ∷ asks shop.P (shop.marking (countedEarly ∷ [])) (markingJudged 1) (number 7)
     ∷ asks shop.P (shop.marking (shop.happenedTimes 0 countLimit ∷ [])) (markingJudged 1) (number 0)
     -- a count grows at each execution and not by time, and at the hold it stays. Not 1; not 3; not 0
-    ∷ asks alone (endOf alone (shop.marking (shop.idle ∷ [])) (shop.request 0 ∷ shop.plain ∷ shop.request 0 ∷ shop.plain ∷ [])) (state 0)
+    ∷ asks alone (endOf alone (shop.marking (shop.idle ∷ [])) (shop.happens 0 ∷ shop.plain ∷ shop.happens 0 ∷ shop.plain ∷ [])) (state 0)
     (is (shop.happenedTimes 1 2))
-    ∷ asks alone (endOf alone (shop.marking (shop.happenedTimes 5 countLimit ∷ [])) (shop.request 0 ∷ [])) (state 0) (is (shop.happenedTimes 0 countLimit))
+    ∷ asks alone (endOf alone (shop.marking (shop.happenedTimes 5 countLimit ∷ [])) (shop.happens 0 ∷ [])) (state 0) (is (shop.happenedTimes 0 countLimit))
     -- carry_marking: the old fields, then count 1 and count 0, and a later byte stays. Not a count of 1 for both; not a 0 behind
     ∷ after [] (carryBuffer 2 shop.hexOld (replicate 25 9)) (bytes (shop.hexRecord ++ replicate 12 0 ++ (9 ∷ [])))
     -- 3 before 1, 1 before 7, 7 before 14, and a refusal writes nothing. Not the later one; not a first record
@@ -346,9 +347,9 @@ turning =
     ∷ asks shop.waits5 (shop.marking (shop.idle ∷ shop.excluded ∷ [])) (enabledNow 0) (enables (record { number = 0; enabled = true }))
     -- due: bounded only. Not event 0
     ∷ asks shop.waits5 (shop.marking (shop.eventuallyPending ∷ shop.pendingWithin true 0 ∷ [])) dueNow (setIs 2)
-    -- report: of a controllable event 9, and the marking handed in comes back. Not 10; not a changed marking
-    ∷ after [] (reported 1) (marks (refusal 9 shop.start))
-    ∷ after [] (reported 9) (marks (refusal 8 shop.start))
+    -- happen: an event that is not enabled, and the marking handed in comes back. Not 9; not a changed marking
+    ∷ after [] (happens 1) (marks (refusal 10 shop.start))
+    ∷ after [] (happens 9) (marks (refusal 8 shop.start))
     -- plain_tick: a place past the count is kept. Not aged
     ∷ asks shop.waits5 (record { records = replicate 64 (shop.happened 3); events = 2 }) (aged 2) (is (shop.happened 3))
     -- margin: never is no number; a milestone has none. Not 0; not never
@@ -365,12 +366,14 @@ turning =
     ∷ asks intoCycle (shop.marking (shop.pendingWithin true 5 ∷ shop.idle ∷ shop.idle ∷ [])) checked (verdicts (Rejects 4 1))
     -- run_bytes: an odd byte gives 1 before 14; a byte past the steps stays; a wrong kind is 15 and the run goes on
     ∷ after [] (runOf (3 ∷ []) 0) (marks (refusal 1 shop.start))
-    ∷ after [] (runBuffer (4 ∷ 0 ∷ 1 ∷ 1 ∷ []) (7 ∷ 7 ∷ 7 ∷ [])) (bytes (15 ∷ 9 ∷ 7 ∷ []))
+    ∷ after [] (runBuffer (4 ∷ 0 ∷ 1 ∷ 1 ∷ []) (7 ∷ 7 ∷ 7 ∷ [])) (bytes (15 ∷ 10 ∷ 7 ∷ []))
+    -- kinds 0 and 1 mean the same, whatever the class: isolate is controllable, leak is not. Not 9
+    ∷ after [] (stepsBuffer (shop.happens 0 ∷ shop.happens 2 ∷ shop.happensToo 0 ∷ shop.happensToo 2 ∷ []) (replicate 4 7)) (bytes (replicate 4 0))
     ∷ after [] (runBuffer (3 ∷ 0 ∷ 3 ∷ 0 ∷ []) (7 ∷ [])) (bytes (7 ∷ []))
     -- run: a refused step leaves the marking; a buffer too short stays, and nothing is run. Not flush executed; not a first answer
-    ∷ after [] (stepsOf (shop.request 1 ∷ []) 1) (marks (refusal 0 shop.start))
-    ∷ after [] (stepsBuffer (shop.leak ∷ shop.request 1 ∷ []) (7 ∷ [])) (bytes (7 ∷ []))
-    ∷ after [] (stepsBuffer (shop.leak ∷ shop.request 1 ∷ []) (7 ∷ 7 ∷ 7 ∷ [])) (bytes (0 ∷ 10 ∷ 7 ∷ []))
+    ∷ after [] (stepsOf (shop.happens 1 ∷ []) 1) (marks (refusal 0 shop.start))
+    ∷ after [] (stepsBuffer (shop.leak ∷ shop.happens 1 ∷ []) (7 ∷ [])) (bytes (7 ∷ []))
+    ∷ after [] (stepsBuffer (shop.leak ∷ shop.happens 1 ∷ []) (7 ∷ 7 ∷ 7 ∷ [])) (bytes (0 ∷ 10 ∷ 7 ∷ []))
     -- in numbers: the ticks of a margin, and none for never; the relation of a hold-up; 12 with reason and place. Not the case alone
     ∷ asks shop.waits5 (shop.marking (shop.idle ∷ shop.happened 3 ∷ [])) (marginTold 0) (toldBy (record { number = 0; kind = 3; ticks = negsuc 1 }))
     ∷ asks shop.waits5 (shop.marking (shop.idle ∷ shop.idle ∷ [])) (marginTold 0) (toldBy (record { number = 0; kind = 2; ticks = pos 0 }))
@@ -409,9 +412,6 @@ turning =
     ∷ after [] (stationBuffer hexInput 0 (replicate longestOutput 9)) (bytes ((0 ∷ shop.hexRecord) ++ replicate 12 0 ++ replicate (longestOutput - 25) 9))
     ∷ []
   where
-    refusal : ℕ → Marking → MarkingAnswer
-    refusal n m = record { number = n; marking = m }
-
     hexInput : List ℕ
     hexInput = shop.hexTable ++ shop.hexMarking ++ (3 ∷ 0 ∷ [])
 
@@ -446,7 +446,7 @@ firm =
     ∷ meeting firmly (shop.response 0 1 3) (shop.pendingWithin true 4) (shop.pendingWithin true 3)
     ∷ meeting firmly (shop.response 0 1 3) shop.idle (shop.pendingWithin true 3)
     -- a response to itself meets the event once it is cleared: the new one. Not 1, the smaller of before
-    ∷ asks selfFirm (endOf selfFirm (shop.marking (shop.pendingWithin true 1 ∷ [])) (shop.request 0 ∷ [])) (state 0)
+    ∷ asks selfFirm (endOf selfFirm (shop.marking (shop.pendingWithin true 1 ∷ [])) (shop.happens 0 ∷ [])) (state 0)
     (is (record { age = 0; deadline = 3; happened = true; included = true; pending = true; bounded = true; count = 1 }))
     -- write_table, and back: the first bit of byte 2. Not the last; not none
     ∷ asks firmP shop.start (tableBuffer (replicate 45 9)) (bytes (shop.pHeaded 0x80 0x00))
@@ -475,7 +475,7 @@ firm =
 
     -- a response of event 0 meets event 1 as it was, and leaves it so
     meeting : (Table → Table) → Relation → Record → Record → Case
-    meeting choice k was left = asks (choice t) (endOf (choice t) (shop.marking (shop.idle ∷ was ∷ [])) (shop.request 0 ∷ [])) (state 1) (is left)
+    meeting choice k was left = asks (choice t) (endOf (choice t) (shop.marking (shop.idle ∷ was ∷ [])) (shop.happens 0 ∷ [])) (state 1) (is left)
       where
         t : Table
         t = shop.table 2 3 3 (k ∷ [])
@@ -594,5 +594,5 @@ cases = worked ++ mistakes ++ turning ++ firm ++ returning ++ chaining
 
 -- every case is answered as told
 pub told-right : map (λ c. answer (c .table) (c .marking) (c .asked)) cases ≡ map (λ c. c .told) cases
-unfolding cases worked mistakes turning firm returning chaining answer causedIn every some lowest howMany repeated placesFrom belowFrom firstOf has setOf sizeOf lowestOf field bytesOf timeFits relationNumber tableNumber stateFits countFits recordFits markingNumber markingNumberFor judged relationAt relationImageNumber tableImageNumber tableIn readTable recordAt markingImageNumber readMarking headerImage classImage relationImage writeTableNumber writeTable recordImage carriedAt carried carryNumber carryMarking pieces stops blocks isEnabled withDeadline excludes includes given smallest executed withInclusion effectAt effect isDue anyDue dueSet later time plainTickNumber plainTick requestNumber reportNumber request restOf marginOf margin wouldBlock holdUpOf holdUp withEvent along visit chain chainNumber chainAnswer chainList busy follows widened widenedFully closure closureAnswer unreportable uncausable waiting awaited onCycle reopening reviving verdict check holdsBack needed ready orderOf taken takenAll executedOf caused guarded guardedTick inTurn effects discharges shortest remedyNumber remedy stepNumber stepDone stepped endOf answersOf traceNumber stepsIn station writeNumber writeMarking fresh enabledAnswer dueAnswer report run runAnswers runBytes runBytesAnswers toldMargin toldHoldUp reasonOf placeOf toldCheck tableOf markingOf imagesNumber fieldsNumber fieldsTold relationFrom numbersNumber tableFrom buildNumber build relationToldNumber relationTold classToldNumber heardNumber heardBytes heardOutput
+unfolding cases worked mistakes turning firm returning chaining answer causedIn every some lowest howMany repeated placesFrom belowFrom firstOf has setOf sizeOf lowestOf field bytesOf timeFits relationNumber tableNumber stateFits countFits recordFits markingNumber markingNumberFor judged relationAt relationImageNumber tableImageNumber tableIn readTable recordAt markingImageNumber readMarking headerImage classImage relationImage writeTableNumber writeTable recordImage carriedAt carried carryNumber carryMarking pieces stops blocks isEnabled withDeadline excludes includes given smallest executed withInclusion effectAt effect isDue anyDue dueSet later time plainTickNumber plainTick happenNumber happen restOf marginOf margin wouldBlock holdUpOf holdUp withEvent along visit chain chainNumber chainAnswer chainList busy follows widened widenedFully closure closureAnswer unreportable uncausable waiting awaited onCycle reopening reviving verdict check holdsBack needed ready orderOf taken takenAll executedOf caused guarded guardedTick inTurn effects discharges shortest remedyNumber remedy stepNumber stepDone stepped endOf answersOf traceNumber stepsIn station writeNumber writeMarking fresh enabledAnswer dueAnswer run runAnswers runBytes runBytesAnswers toldMargin toldHoldUp reasonOf placeOf toldCheck tableOf markingOf imagesNumber fieldsNumber fieldsTold relationFrom numbersNumber tableFrom buildNumber build relationToldNumber relationTold classToldNumber heardNumber heardBytes heardOutput
 told-right = refl

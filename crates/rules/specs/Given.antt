@@ -1,20 +1,20 @@
 -- Numbers that are never given: what may be said of the number of every public call.
 use mathlib.Core.Path.{_≡_}
-use mathlib.Core.Bool.{Bool}
+use mathlib.Core.Bool.{Bool, not, _&&_}
 use mathlib.Core.List.{List, [], _∷_}
-use Prim.Native.Nat.{ℕ, _<_, _/_}
-use lib.Dec.{leb}
+use Prim.Native.Nat.{ℕ, _<_, _*_, _/_}
+use lib.Dec.{eqb, leb, ltb}
 use lib.ListN.{length, getD}
 use Rattle.rules.specs.declared.Table.{Table}
 use Rattle.rules.specs.declared.Marking.{Marking}
 use Rattle.rules.specs.declared.Step.{Step}
-use Rattle.rules.specs.Numbers.{marginNumber, holdUpNumber, checkNumber}
+use Rattle.rules.specs.Numbers.{_if_, _else_, marginNumber, holdUpNumber, checkNumber}
 use Rattle.rules.specs.Judge.{tableNumber, markingNumberFor}
-use Rattle.rules.specs.Image.{readTable, readMarking, writeTableNumber, writeNumber, fresh}
+use Rattle.rules.specs.Image.{recordBytes, readTable, readMarking, writeTableNumber, writeNumber, fresh}
 use Rattle.rules.specs.Carrying.{carryNumber}
 use Rattle.rules.specs.Enabled.{enabledAnswer}
 use Rattle.rules.specs.Time.{dueAnswer, plainTick}
-use Rattle.rules.specs.Ask.{request, report}
+use Rattle.rules.specs.Happen.{happen}
 use Rattle.rules.specs.Margin.{margin}
 use Rattle.rules.specs.HoldUp.{holdUp}
 use Rattle.rules.specs.Chain.{chainAnswer}
@@ -27,9 +27,9 @@ use Rattle.rules.specs.Images.{imagesNumber, guardNumber, fieldsNumber}
 use Rattle.rules.specs.Building.{buildNumber, relationToldNumber, classToldNumber}
 use Rattle.rules.specs.Station.{stepsPart, station, heardNumber}
 
--- the numbers that a call may give: 0 for 'done', and 1 to 15
+-- the numbers that a call may give: 0 for 'done', 1 to 8, and 10 to 15
 abbrev pub given : ℕ → Bool
-given n = leb n 15
+given n = leb n 15 && not (eqb n 9)
 
 -- P holds of every number that a public call gives
 pub record EveryCall (P : ℕ → Type 0) : Type 0 where
@@ -45,8 +45,7 @@ pub record EveryCall (P : ℕ → Type 0) : Type 0 where
   -- the engine
   pub of-enabled : (t : Table) (m : Marking) (e : ℕ) → P (enabledAnswer t m e .number)
   pub of-due : (t : Table) (m : Marking) → P (dueAnswer t m .number)
-  pub of-request : (t : Table) (m : Marking) (e : ℕ) → P (request t m e .number)
-  pub of-report : (t : Table) (m : Marking) (e : ℕ) → P (report t m e .number)
+  pub of-happen : (t : Table) (m : Marking) (e : ℕ) → P (happen t m e .number)
   pub of-plain-tick : (t : Table) (m : Marking) → P (plainTick t m .number)
   pub of-margin : (t : Table) (m : Marking) (k : ℕ) → P (marginNumber (margin t m k))
   pub of-hold-up : (t : Table) (m : Marking) (e : ℕ) → P (holdUpNumber (holdUp t m e))
@@ -66,9 +65,10 @@ pub record EveryCall (P : ℕ → Type 0) : Type 0 where
   pub of-heard : (kept beyond room : ℕ) → P (heardNumber kept beyond room)
   pub of-station : (input : List ℕ) (byte : ℕ) → station input ≡ byte ∷ [] → P byte
   pub of-station-answers : (input : List ℕ) (i : ℕ) → i < length (stepsPart input) / 2 → P (getD (station input) i 0)
-  -- what the calls for C ask before their rule, of a record's fields, and of a table built and told in numbers
-  pub of-images : (table marking : List ℕ) → P (imagesNumber table marking)
-  pub of-guard : (table marking : List ℕ) (room : ℕ) → P (guardNumber table marking room)
+  -- the calls for C: what they ask before their rule, else its number; of a fresh marking's image, a record's fields, a table built and told in numbers
+  pub of-images : (table marking : List ℕ) (own : ℕ) → P own → P (imagesNumber table marking else own)
+  pub of-guard : (table marking : List ℕ) (room own : ℕ) → P own → P (guardNumber table marking room else own)
+  pub of-fresh-image : (events room : ℕ) → P (fresh events .number else 14 if ltb room (recordBytes * events))
   pub of-fields : (table marking : List ℕ) (event room : ℕ) → P (fieldsNumber table marking event room)
   pub of-build : (events firm : ℕ) (classes numbers : List ℕ) (room : ℕ) → P (buildNumber events firm classes numbers room)
   pub of-relation-told : (table : List ℕ) (relation room : ℕ) → P (relationToldNumber table relation room)

@@ -11,7 +11,7 @@ use Rattle.rules.specs.Numbers.{done}
 use Rattle.rules.specs.Effect.{effect}
 use Rattle.rules.specs.Time.{time}
 use Rattle.rules.specs.Guard.{caused}
-use Rattle.rules.specs.Trace.{reportKind, plainTickKind, stepNumber, stepped}
+use Rattle.rules.specs.Trace.{lastHappenKind, plainTickKind, stepNumber, stepped}
 
 pub data Act : Type 0 where
   executes : ℕ → Act
@@ -44,7 +44,7 @@ thenPass (e ∷ rest) = executes e ∷ thenPass rest
 unfoldable pub actsOf : Table → Marking → Step → List Act
 actsOf t m s =
     done (stepNumber t m s)
-    (cond (leb (s .kind) reportKind) (executes (s .event) ∷ []) (cond (eqb (s .kind) plainTickKind) (passes ∷ []) (thenPass (caused t m))))
+    (cond (leb (s .kind) lastHappenKind) (executes (s .event) ∷ []) (cond (eqb (s .kind) plainTickKind) (passes ∷ []) (thenPass (caused t m))))
     []
 
 unfoldable pub historyOf : Table → Marking → List Step → List Act

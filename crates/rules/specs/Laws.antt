@@ -12,7 +12,7 @@ pub mod TableWith
 pub mod Written
 pub mod Granted
 pub mod Time
-pub mod Ask
+pub mod Happen
 pub mod Including
 pub mod Margin
 pub mod HoldUp
@@ -31,6 +31,7 @@ pub mod Taken
 pub mod Turns
 pub mod Remedy
 pub mod Trace
+pub mod Old
 pub mod Station
 pub mod Never
 pub mod UnusedRules

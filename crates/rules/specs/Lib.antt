@@ -11,7 +11,7 @@ pub mod Carrying
 pub mod Enabled
 pub mod Effect
 pub mod Time
-pub mod Ask
+pub mod Happen
 pub mod Including
 pub mod Margin
 pub mod HoldUp

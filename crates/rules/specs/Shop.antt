@@ -81,12 +81,12 @@ happened a = happenedTimes a 1
 abbrev pub away : Record → Record
 away r = withIncluded false r
 
--- steps
-abbrev pub request : ℕ → Step
-request e = record { kind = 0; event = e }
+-- steps; kind 1 means what kind 0 does
+abbrev pub happens : ℕ → Step
+happens e = record { kind = 0; event = e }
 
-abbrev pub report : ℕ → Step
-report e = record { kind = 1; event = e }
+abbrev pub happensToo : ℕ → Step
+happensToo e = record { kind = 1; event = e }
 
 abbrev pub plain : Step
 plain = record { kind = 2; event = 0 }
@@ -96,10 +96,10 @@ guarded = record { kind = 3; event = 0 }
 
 -- P: event 0 leak (uncontrollable), 1 flush, 2 isolate, 4 drain (controllable, causable), 3 standby (uncontrollable)
 abbrev pub leak : Step
-leak = report 0
+leak = happensToo 0
 
 abbrev pub standby : Step
-standby = report 3
+standby = happensToo 3
 
 abbrev pub pRelations : List Relation
 pRelations =

@@ -1,5 +1,5 @@
--- The trace runner. Steps: 0 request, 1 report, 2 plain tick, 3 guarded tick; at most 4,096. Ticks have event 0. One answer byte per step goes
--- to a lent buffer, 0 for done or the refusal number; a refused step leaves the marking and the run goes on. The end marking is returned.
+-- The trace runner. Steps: 0 or 1 an event happens, 2 plain tick, 3 guarded tick; at most 4,096. Ticks have event 0. One answer byte per step
+-- goes to a lent buffer, 0 for done or the refusal number; a refused step leaves the marking and the run goes on. The end marking is returned.
 use mathlib.Core.Bool.{Bool, not, _&&_, _||_, cond}
 use mathlib.Core.List.{List, [], _∷_, _++_}
 use Prim.Native.Nat.{ℕ, _+_, _*_, _/_, _%_}
@@ -14,16 +14,16 @@ use Rattle.rules.specs.Numbers.{_if_, _else_, done, checkNumber}
 use Rattle.rules.specs.Judge.{judged}
 use Rattle.rules.specs.Effect.{effect}
 use Rattle.rules.specs.Time.{time, plainTickNumber}
-use Rattle.rules.specs.Ask.{requestNumber, reportNumber}
+use Rattle.rules.specs.Happen.{happenNumber}
 use Rattle.rules.specs.Check.{verdict}
 use Rattle.rules.specs.Guard.{guarded}
 
--- the kinds of step, in order: two ask for an event, two are ticks
-abbrev pub requestKind : ℕ
-requestKind = 0
+-- the kinds of step, in order: the first two both mean that an event happens, two are ticks
+abbrev pub happenKind : ℕ
+happenKind = 0
 
-abbrev pub reportKind : ℕ
-reportKind = 1
+abbrev pub lastHappenKind : ℕ
+lastHappenKind = 1
 
 abbrev pub plainTickKind : ℕ
 plainTickKind = 2
@@ -43,13 +43,12 @@ wrongStep kind event = ltb guardedTickKind kind || leb plainTickKind kind && not
 unfoldable pub stepNumber : Table → Marking → Step → ℕ
 stepNumber t m s =
     15 if wrongStep (s .kind) (s .event)
-    else cond (eqb (s .kind) requestKind) (requestNumber t m (s .event))
-    (cond (eqb (s .kind) reportKind) (reportNumber t m (s .event))
-    (cond (eqb (s .kind) plainTickKind) (plainTickNumber m) (checkNumber (verdict t m))))
+    else cond (leb (s .kind) lastHappenKind) (happenNumber t m (s .event))
+    (cond (eqb (s .kind) plainTickKind) (plainTickNumber m) (checkNumber (verdict t m)))
 
 -- the marking after a step that is done
 unfoldable pub stepDone : Table → Marking → Step → Marking
-stepDone t m s = cond (leb (s .kind) reportKind) (effect t m (s .event)) (cond (eqb (s .kind) plainTickKind) (time m) (guarded t m))
+stepDone t m s = cond (leb (s .kind) lastHappenKind) (effect t m (s .event)) (cond (eqb (s .kind) plainTickKind) (time m) (guarded t m))
 
 unfoldable pub stepped : Table → Marking → Step → Marking
 stepped t m s = done (stepNumber t m s) (stepDone t m s) m

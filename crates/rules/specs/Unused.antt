@@ -14,7 +14,7 @@ use Rattle.rules.specs.Judge.{tableNumber, markingNumberFor}
 use Rattle.rules.specs.Image.{writeTableNumber, writeTable, writeNumber, writeMarking}
 use Rattle.rules.specs.Enabled.{enabledAnswer}
 use Rattle.rules.specs.Time.{dueAnswer, plainTick}
-use Rattle.rules.specs.Ask.{request, report}
+use Rattle.rules.specs.Happen.{happen}
 use Rattle.rules.specs.Margin.{margin}
 use Rattle.rules.specs.HoldUp.{holdUp}
 use Rattle.rules.specs.Chain.{chainAnswer, chainList}
@@ -70,8 +70,7 @@ pub record NoneLooks (t u : Table) (m n : Marking) : Type 0 where
   -- the engine
   pub of-enabled : (e : ℕ) → enabledAnswer t m e ≡ enabledAnswer u n e
   pub of-due : dueAnswer t m ≡ dueAnswer u n
-  pub of-request : (e : ℕ) → SameAnswer (request t m e) (request u n e)
-  pub of-report : (e : ℕ) → SameAnswer (report t m e) (report u n e)
+  pub of-happen : (e : ℕ) → SameAnswer (happen t m e) (happen u n e)
   pub of-plain-tick : SameAnswer (plainTick t m) (plainTick u n)
   pub of-margin : (k : ℕ) → margin t m k ≡ margin u n k
   pub of-hold-up : (e : ℕ) → holdUp t m e ≡ holdUp u n e
@@ -89,8 +88,7 @@ pub record NoneLooks (t u : Table) (m n : Marking) : Type 0 where
 
 -- every public call that gives a marking back keeps the unused places of the one handed in
 pub record AllKeep (t : Table) (m : Marking) : Type 0 where
-  pub of-request : (e : ℕ) → KeepsUnused m (request t m e .marking)
-  pub of-report : (e : ℕ) → KeepsUnused m (report t m e .marking)
+  pub of-happen : (e : ℕ) → KeepsUnused m (happen t m e .marking)
   pub of-plain-tick : KeepsUnused m (plainTick t m .marking)
   pub of-guarded-tick : KeepsUnused m (guardedTick t m .marking)
   pub of-run : (steps : List Step) (room : ℕ) → KeepsUnused m (run t m steps room .marking)

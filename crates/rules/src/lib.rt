@@ -223,10 +223,10 @@ impl Step {
     // A trace has at most so many steps.
     pub const MOST: usize = 4096;
 
-    // The kinds.
-    pub const REQUEST: u8 = 0;
+    // The kinds; the first two both mean that an event happens.
+    pub const HAPPEN: u8 = 0;
 
-    pub const REPORT: u8 = 1;
+    pub const LAST_HAPPEN: u8 = 1;
 
     pub const PLAIN_TICK: u8 = 2;
 

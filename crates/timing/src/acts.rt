@@ -57,23 +57,7 @@ pub extern "C" fn timing_due(table: &[u8], marking: &[u8], mut times: usize) -> 
 }
 
 #[no_mangle]
-pub extern "C" fn timing_request(table: &[u8], marking: &[u8], mut times: usize) -> u64 {
-    let t = start::table(table);
-    let mut m = start::marking(t.events, marking);
-    let first = start::first(m);
-    let mut sum = 1;
-    while times > 0 {
-        times -= 1;
-        let e = fold::below(t.events, sum);
-        let a = engine::request(t, start::set_back(m, first, sum), e);
-        sum = fold::marking(sum, a);
-        m = a.marking;
-    }
-    sum
-}
-
-#[no_mangle]
-pub extern "C" fn timing_report(
+pub extern "C" fn timing_happen(
     table: &[u8],
     marking: &[u8],
     last: usize,
@@ -85,7 +69,7 @@ pub extern "C" fn timing_report(
     let mut sum = 1;
     while times > 0 {
         times -= 1;
-        let a = engine::report(t, start::set_back(m, first, sum), last);
+        let a = engine::happen(t, start::set_back(m, first, sum), last);
         sum = fold::marking(sum, a);
         m = a.marking;
     }

@@ -1,4 +1,4 @@
-// Calls 7 to 18: the engine's that are lent no list. The first two are given an event set, the others a table, a marking, and some of them an
+// Calls 7 to 18 and 25: the engine's that are lent no list. The first two are given an event set, the others a table, a marking, and some of them an
 // event or relation asked about.
 use rules::ClosureAnswer;
 use rules::GuardedAnswer;
@@ -28,15 +28,12 @@ pub fn closed(s: &[u8]) -> ClosureAnswer {
     engine::closure(given::table(s), given::marking_behind(s))
 }
 
-pub fn moved(call: u8, s: &[u8]) -> MarkingAnswer {
-    let t = given::table(s);
-    let m = given::marking_behind(s);
-    let n = given::asked(s);
-    match call {
-        11 => engine::request(t, m, n),
-        12 => engine::report(t, m, n),
-        _ => engine::plain_tick(t, m),
-    }
+pub fn ticked(s: &[u8]) -> MarkingAnswer {
+    engine::plain_tick(given::table(s), given::marking_behind(s))
+}
+
+pub fn happened(s: &[u8]) -> MarkingAnswer {
+    engine::happen(given::table(s), given::marking_behind(s), given::asked(s))
 }
 
 pub fn guarded(s: &[u8]) -> GuardedAnswer {

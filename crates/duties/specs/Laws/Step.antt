@@ -1,4 +1,4 @@
--- A step over words, by how it ended: asked for, of no kind, or a tick. Assumes nothing.
+-- A step over words, by how it ended: an event that happens, of no kind, or a tick. Assumes nothing.
 use mathlib.Core.Path.{_≡_, refl, _∙_, ap, sym, subst}
 use mathlib.Core.Bool.{Bool, true, false, _&&_, _||_, cond}
 use mathlib.Core.List.{List}
@@ -13,23 +13,16 @@ use Rattle.rules.specs.declared.Marking.{Marking}
 use Rattle.rules.specs.declared.MarkingAnswer.{MarkingAnswer}
 use Rattle.rules.specs.Numbers.{done, checkNumber}
 use Rattle.rules.specs.Effect.{effect}
+use Rattle.rules.specs.Happen.{happenNumber}
 use Rattle.rules.specs.Time.{time, plainTickNumber}
 use Rattle.rules.specs.Check.{verdict}
 use Rattle.rules.specs.Guard.{guarded}
-use Rattle.rules.specs.Shapes.Asked.{askNumber}
-use Rattle.rules.specs.Laws.Trace.{turned, turned-ask, turned-tick, turned-guarded, turned-wrong, wrong-event, wrong-kind}
+use Rattle.rules.specs.Laws.Trace.{turned, turned-happen, turned-tick, turned-guarded, turned-wrong, wrong-event, wrong-kind}
 use Rattle.duties.specs.declared.step.Stepped.{Stepped}
 use Rattle.acts.specs.Stands.{Stands}
 use Rattle.duties.specs.Step.{Turned}
 
--- kinds 0 and 1 by whether they are 0, kinds 2 and 3 by whether they are 3
-ask-kind : (kind : ℕ) → kind ≤ 1 → cond (eqb kind 0) 0 1 ≡ kind
-ask-kind kind few = go (eqb kind 0) refl
-  where
-    go : (b : Bool) → eqb kind 0 ≡ b → cond b 0 1 ≡ kind
-    go true e = sym (eqb-true kind 0 e)
-    go false e = omega (arith, eqb-false kind 0 e)
-
+-- kinds 2 and 3 by whether they are 3
 tick-kind : (kind : ℕ) → 1 < kind → kind ≤ 3 → cond (eqb kind 3) 3 2 ≡ kind
 tick-kind kind more few = go (eqb kind 3) refl
   where
@@ -71,14 +64,13 @@ module _ {t : Table} {tail : List Record} {m : Marking} {accepted : Bool} {clock
     accepts = shown;
   }
 
-  -- asked for
-  pub ask-turned : (kind event : ℕ) → kind ≤ 1 → {number : ℕ}
-      → (number ≡ askNumber (eqb kind 0) t m event) × Stands (t .events) tail clock sets columns (done number (effect t m event) m)
+  -- an event that happens
+  pub happen-turned : (kind event : ℕ) → kind ≤ 1 → {number : ℕ}
+      → (number ≡ happenNumber t m event) × Stands (t .events) tail clock sets columns (done number (effect t m event) m)
       → Turned t tail m accepted kind event (record { number = number; clock = clock; accepted = accepted }) sets columns
-  ask-turned kind event few {number} p =
+  happen-turned kind event few {number} p =
       turned-by kind event (record { number = number; marking = done number (effect t m event) m })
-      (ap (λ (n : ℕ). record { number = n; marking = done n (effect t m event) m }) (p .0) ∙ turned-ask t m event (eqb kind 0)
-      ∙ ap (λ (k : ℕ). turned t m k event) (ask-kind kind few))
+      (ap (λ (n : ℕ). record { number = n; marking = done n (effect t m event) m }) (p .0) ∙ turned-happen t m event kind few)
       accepted shown (p .1)
     where
       shown : accepted ≡ (accepted || eqb kind 3 && eqb number 0)
@@ -89,9 +81,7 @@ module _ {t : Table} {tail : List Record} {m : Marking} {accepted : Bool} {clock
       → Turned t tail m accepted kind event (record { number = 15; clock = clock; accepted = accepted }) sets columns
   wrong-turned kind event more wrong stands =
       turned-by kind event (record { number = 15; marking = m })
-      (turned-wrong t m event kind
-      (⊎-elim (wrong-event kind event (λ z. omega (arith, z)) (λ z. omega (arith, z)))
-      (λ l. wrong-kind kind event (λ z. omega (arith, z)) (λ z. omega (arith, z)) (λ z. omega (arith, z)) (λ z. omega (arith, z))) wrong))
+      (turned-wrong t m event kind (⊎-elim (wrong-event kind event more) (wrong-kind kind event) wrong))
       accepted (none-shown accepted (eqb kind 3)) stands
 
   -- a tick

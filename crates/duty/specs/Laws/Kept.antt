@@ -15,7 +15,7 @@ use Rattle.rules.specs.Judge.{eventsFit, tableNumber, markingNumber, markingNum
 use Rattle.rules.specs.Image.{recordBytes, markingImage, writeNumber, writeMarking, fresh}
 use Rattle.rules.specs.Effect.{effect}
 use Rattle.rules.specs.Time.{time, plainTick, plainTickNumber}
-use Rattle.rules.specs.Ask.{request, requestNumber, report, reportNumber}
+use Rattle.rules.specs.Happen.{happenNumber, happen}
 use Rattle.rules.specs.Chain.{chain, chainNumber, chainAnswer, placesOf, chainList}
 use Rattle.rules.specs.Check.{check}
 use Rattle.rules.specs.Guard.{guarded, guardedTick}
@@ -28,7 +28,7 @@ use Rattle.rules.specs.Laws.Trace.{guarded-judged, end-judged}
 use Rattle.rules.specs.Demand3.Facts.{effect-judged, time-judged}
 use Rattle.image.specs.Theorems.{fresh-accepted}
 use Rattle.duty.specs.declared.acting.Act.{Act}
-use Rattle.duty.specs.declared.acting.Act.the-variants.{Request, Report, PlainTick}
+use Rattle.duty.specs.declared.acting.Act.the-variants.{Happen, PlainTick}
 use Rattle.duty.specs.Performing.{acted, Fills}
 use Rattle.duty.specs.Laws.Images.{marking-long}
 
@@ -41,21 +41,16 @@ either t number after before p q = go (eqb number 0)
     go false = q
 
 module _ (t : Table) (m : Marking) (h : judged t m ≡ 0) where
-  request-judged : (e : ℕ) → judged t (request t m e .marking) ≡ 0
-  unfolding request
-  request-judged e = either t (judged t m else requestNumber t m e) (effect t m e) m (effect-judged t m e h) h
-
-  report-judged : (e : ℕ) → judged t (report t m e .marking) ≡ 0
-  unfolding report
-  report-judged e = either t (judged t m else reportNumber t m e) (effect t m e) m (effect-judged t m e h) h
+  happen-judged : (e : ℕ) → judged t (happen t m e .marking) ≡ 0
+  unfolding happen
+  happen-judged e = either t (judged t m else happenNumber t m e) (effect t m e) m (effect-judged t m e h) h
 
   plain-tick-judged : judged t (plainTick t m .marking) ≡ 0
   unfolding plainTick
   plain-tick-judged = either t (judged t m else plainTickNumber m) (time m) m (time-judged t m h) h
 
   pub act-judged : (a : Act) → judged t (acted a t m .marking) ≡ 0
-  act-judged (Request e) = request-judged e
-  act-judged (Report e) = report-judged e
+  act-judged (Happen e) = happen-judged e
   act-judged PlainTick = plain-tick-judged
 
   pub guarded-tick-judged : judged t (guardedTick t m .marking) ≡ 0

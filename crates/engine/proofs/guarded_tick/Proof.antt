@@ -8,7 +8,7 @@ use Rattle.rules.specs.Check.{verdict}
 use Rattle.rules.specs.Guard.{caused, guarded}
 use Rattle.rules.specs.Laws.Judge.{judged-by}
 use Rattle.engine.specs.Laws.Judging.{unused, table-good, few-records, some-events, laid-out, given-back}
-use Rattle.acts.specs.Laws.Asked.{head-firm}
+use Rattle.acts.specs.Laws.Happen.{head-firm}
 use Rattle.duties.specs.Laws.Taking.{answered-is}
 use Rattle.duties.specs.Laws.Checked.{tick-unjudged, tick-refused, tick-rejected, tick-accepted}
 use Rattle.engine.proofs.guarded_tick.Statement.{statement}

@@ -1,6 +1,5 @@
 -- What a call knows once it has judged what it was handed, and has laid the marking out as words. Assumes nothing.
 use mathlib.Core.Path.{_≡_, _∙_, ap, sym, subst}
-use mathlib.Core.Bool.{Bool}
 use mathlib.Core.List.{List}
 use Prim.Native.Nat.{ℕ, _<_, _≤_}
 use native.Mathlib.Omega.{arith}
@@ -13,8 +12,8 @@ use Rattle.rules.specs.declared.MarkingAnswer.{MarkingAnswer}
 use Rattle.rules.specs.Numbers.{done}
 use Rattle.rules.specs.Judge.{judged}
 use Rattle.rules.specs.Effect.{effect}
+use Rattle.rules.specs.Happen.{happenNumber, happen}
 use Rattle.rules.specs.Time.{time, plainTick, plainTickNumber}
-use Rattle.rules.specs.Shapes.Asked.{askNumber, asked}
 use Rattle.rules.specs.Shapes.Good.{GoodTable, GoodMarking}
 use Rattle.rules.specs.Laws.Judge.{good}
 use Rattle.rules.specs.Laws.Granted.{stands}
@@ -30,15 +29,14 @@ abbrev pub acted : ℕ → Marking → Marking → MarkingAnswer
 acted number after m = record { number = number; marking = done number after m }
 
 module _ (t : Table) (m : Marking) where
-  -- an ask of judged values, and one that the judge refuses
-  pub ask-judged : (wanted : Bool) (e : ℕ) → judged t m ≡ 0 → acted (askNumber wanted t m e) (effect t m e) m ≡ asked wanted t m e
-  unfolding asked
-  ask-judged wanted e d = rw d
+  -- what happens in judged values, and in some that the judge refuses
+  pub happen-judged : (e : ℕ) → judged t m ≡ 0 → acted (happenNumber t m e) (effect t m e) m ≡ happen t m e
+  unfolding happen
+  happen-judged e d = rw d
 
-  pub ask-unjudged : (wanted : Bool) (e : ℕ) {number : ℕ} → number ≡ judged t m → (number ≡ 0 → ⊥)
-      → record { number = number; marking = m } ≡ asked wanted t m e
-  unfolding asked
-  ask-unjudged wanted e p h = rw (← stands (askNumber wanted t m e) p h, ne-eqb _ 0 h)
+  pub happen-unjudged : (e : ℕ) {number : ℕ} → number ≡ judged t m → (number ≡ 0 → ⊥) → record { number = number; marking = m } ≡ happen t m e
+  unfolding happen
+  happen-unjudged e p h = rw (← stands (happenNumber t m e) p h, ne-eqb _ 0 h)
 
   module _ (d : judged t m ≡ 0) where
     pub table-good : GoodTable t

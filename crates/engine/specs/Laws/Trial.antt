@@ -26,7 +26,7 @@ use Rattle.acts.specs.Derived.{firmSet, headOf, Own, Derived, Linked}
 use Rattle.acts.specs.Stands.{Stands}
 use Rattle.engine.specs.Trial.{Tried}
 use Rattle.acts.specs.Laws.Linked.{derived-own}
-use Rattle.acts.specs.Laws.Asked.{head-firm}
+use Rattle.acts.specs.Laws.Happen.{head-firm}
 
 -- What a table's head says of it.
 module _ (t : Table) (head : Head) (of : head ≡ headOf t) where

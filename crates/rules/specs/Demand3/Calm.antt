@@ -18,7 +18,7 @@ use Rattle.rules.specs.Effect.{within, eventually, none, deadlineOf, isP
 use Rattle.rules.specs.Time.{isDue, anyDue, time, plainTickNumber}
 use Rattle.rules.specs.Guard.{caused}
 use Rattle.rules.specs.Remedy.{effects}
-use Rattle.rules.specs.Trace.{reportKind, plainTickKind, wrongStep, stepNumber, stepped}
+use Rattle.rules.specs.Trace.{lastHappenKind, plainTickKind, wrongStep, stepNumber, stepped}
 use Rattle.rules.specs.History.{Act, executes, passes, after, passesIn, thenPass, actsOf, historyOf}
 use Rattle.rules.specs.Deadline.{Duty, noLater, Ends, executed, excluded, Settles, ended, given-new, Met}
 use Rattle.rules.specs.Laws.Tests.{decide, clash, join}
@@ -72,7 +72,7 @@ module _ (t : Table) (X : ℕ) (st : Static t X) where
 
   step-calm : (m : Marking) → Invariant t X m → (s : Step) → Calm t m (actsOf t m s)
   unfolding actsOf
-  step-calm m v s = go (eqb (stepNumber t m s) 0) (leb (s .kind) reportKind) (eqb (s .kind) plainTickKind) refl refl
+  step-calm m v s = go (eqb (stepNumber t m s) 0) (leb (s .kind) lastHappenKind) (eqb (s .kind) plainTickKind) refl refl
     where
       go : (d a p : Bool) → eqb (stepNumber t m s) 0 ≡ d → eqb (s .kind) plainTickKind ≡ p
           → Calm t m (cond d (cond a (executes (s .event) ∷ []) (cond p (passes ∷ []) (thenPass (caused t m)))) [])

@@ -21,16 +21,16 @@ use Rattle.rules.specs.Numbers.{done}
 use Rattle.rules.specs.Holds.{mostEvents, recordOf}
 use Rattle.rules.specs.Judge.{judged}
 use Rattle.rules.specs.Time.{isDue, anyDue, dueSet, time, dueAnswer, plainTick}
-use Rattle.rules.specs.Ask.{request, report}
+use Rattle.rules.specs.Happen.{happen}
 use Rattle.rules.specs.Closure.{closureAnswer}
 use Rattle.rules.specs.Check.{check}
 use Rattle.rules.specs.Guard.{caused, guardedTick}
 use Rattle.rules.specs.Remedy.{effects}
-use Rattle.rules.specs.Trace.{requestKind, reportKind, plainTickKind, guardedTickKind, stepNumber, stepDone, stepped, endOf, runNumber, run}
+use Rattle.rules.specs.Trace.{happenKind, plainTickKind, guardedTickKind, stepNumber, stepDone, stepped, endOf, runNumber, run}
 use Rattle.rules.specs.Trace.{stepsIn, bytesNumber, runBytes}
 use Rattle.rules.specs.Promised.{Promise}
 use Rattle.rules.specs.History.{Act, executes, passes, thenPass, actsOf, historyOf}
-use Rattle.rules.specs.Calls.{step, Calls, none, requested, reported, ticked, guardedly, ran, ran-bytes, offered, listed, actsIn}
+use Rattle.rules.specs.Calls.{step, Calls, none, happened, ticked, guardedly, ran, ran-bytes, offered, listed, actsIn}
 use Rattle.rules.specs.Calls.{Caused, Ticked, Answered}
 use Rattle.rules.specs.Laws.Time.{none-due-yet, set-empty}
 use Rattle.rules.specs.Laws.Taken.{tick-listed}
@@ -39,7 +39,7 @@ use Rattle.rules.specs.Demand3.Facts.{effect-judged}
 use Rattle.rules.specs.Demand3.Accepts.{check-parts}
 use Rattle.rules.specs.Demand3.Leading.{history-append}
 use Rattle.rules.specs.Demand3.Keeping.{promised}
-use Rattle.rules.specs.Demand3.Statements.{still-accepts, deadline-kept, report-never-10}
+use Rattle.rules.specs.Demand3.Statements.{still-accepts, deadline-kept, always-done}
 
 -- what the answer of a guarded tick lists is what is caused
 module _ (t : Table) (m : Marking) (accepted : check t m ≡ Accepts) (answer : GuardedAnswer) (is : answer ≡ guardedTick t m) where
@@ -124,21 +124,13 @@ ticks t m accepted answer is =
 
 -- each call, on judged values that the check accepts, is its step, and comes to what its step comes to
 module _ (t : Table) (m : Marking) (accepted : check t m ≡ Accepts) where
-  request-step : (e : ℕ) → request t m e .marking ≡ stepped t m (step requestKind e)
-  unfolding request stepped stepNumber stepDone
-  request-step e = rw (check-parts t m accepted .0)
+  happen-step : (e : ℕ) → happen t m e .marking ≡ stepped t m (step happenKind e)
+  unfolding happen stepped stepNumber stepDone
+  happen-step e = rw (check-parts t m accepted .0)
 
-  request-acts : (e : ℕ) → done (request t m e .number) (executes e ∷ []) [] ≡ actsOf t m (step requestKind e)
-  unfolding request actsOf stepNumber
-  request-acts e = rw (check-parts t m accepted .0)
-
-  report-step : (e : ℕ) → report t m e .marking ≡ stepped t m (step reportKind e)
-  unfolding report stepped stepNumber stepDone
-  report-step e = rw (check-parts t m accepted .0)
-
-  report-acts : (e : ℕ) → done (report t m e .number) (executes e ∷ []) [] ≡ actsOf t m (step reportKind e)
-  unfolding report actsOf stepNumber
-  report-acts e = rw (check-parts t m accepted .0)
+  happen-acts : (e : ℕ) → done (happen t m e .number) (executes e ∷ []) [] ≡ actsOf t m (step happenKind e)
+  unfolding happen actsOf stepNumber
+  happen-acts e = rw (check-parts t m accepted .0)
 
   tick-step : plainTick t m .marking ≡ stepped t m (step plainTickKind 0)
   unfolding plainTick stepped stepNumber stepDone
@@ -202,17 +194,11 @@ module _ (t : Table) where
   follows : {m end : Marking} {steps : List Step} (calls : Calls t m steps end) → Accepted m → Follows t m steps end (actsIn calls)
   unfolding actsIn endOf historyOf run runBytes
   follows none accepted = record { leads = refl; comes-to = refl }
-  follows (requested {m} {end} {steps} e answer is rest) accepted =
-      let s = step requestKind e in
+  follows (happened {m} {end} {steps} e answer is rest) accepted =
+      let s = step happenKind e in
       joined (s ∷ []) steps accepted
       (by-answer (λ (a : MarkingAnswer). a .marking) (λ a. done (a .number) (executes e ∷ []) []) (λ a. s ∷ []) is
-      (one s (request-step t m accepted e) (request-acts t m accepted e)))
-      (λ a. follows rest a)
-  follows (reported {m} {end} {steps} e answer is rest) accepted =
-      let s = step reportKind e in
-      joined (s ∷ []) steps accepted
-      (by-answer (λ (a : MarkingAnswer). a .marking) (λ a. done (a .number) (executes e ∷ []) []) (λ a. s ∷ []) is
-      (one s (report-step t m accepted e) (report-acts t m accepted e)))
+      (one s (happen-step t m accepted e) (happen-acts t m accepted e)))
       (λ a. follows rest a)
   follows (ticked {m} {end} {steps} answer is rest) accepted =
       let s = step plainTickKind 0 in
@@ -246,7 +232,7 @@ answered t m accepted =
     record {
       checked = λ answer is. is ∙ accepted;
       ticks = ticks t m accepted;
-      heard = λ e answer is h. report-never-10 t m accepted [] e (sym (ap (λ (a : MarkingAnswer). a .number) is) ∙ h);
+      heard = λ e answer is b h. ap (λ (a : MarkingAnswer). a .number) is ∙ always-done t m accepted [] e b h;
       kept = λ {end} {steps} calls before rest split.
           deadline-kept t m accepted steps before rest (sym (follows t calls accepted .comes-to) ∙ split);
     }

@@ -19,7 +19,7 @@ use Rattle.rules.specs.Judge.{timeFits, relationNumber, tableNumber, sta
 use Rattle.rules.specs.Enabled.{stops, blocks, isEnabled}
 use Rattle.rules.specs.Effect.{withDeadline, excludes, includes, given, smallest, executed, withInclusion, effectAt, effect}
 use Rattle.rules.specs.Time.{isDue, anyDue, dueSet, later, time, plainTickNumber}
-use Rattle.rules.specs.Ask.{requestNumber, reportNumber, report}
+use Rattle.rules.specs.Happen.{happenNumber, happen}
 use Rattle.rules.specs.Closure.{busy, follows, widened, widenedFully, closure}
 use Rattle.rules.specs.Check.{unreportable, uncausable, waiting, awaited, onCycle, reopening, reviving, verdict, check}
 use Rattle.rules.specs.Guard.{holdsBack, needed, ready, orderOf, order, taken, takenAll, executedOf, caused, guarded}
@@ -39,14 +39,14 @@ reasons t m =
     ∷ some (t .count) (reviving t closed)
     ∷ []
 
--- what goes wrong: the number that a report is answered after some steps; or what a guarded tick would take and cause, whether each caused
+-- what goes wrong: the number that an event gets where it happens after some steps; or what a guarded tick would take and cause, whether each caused
 -- event is causable and enabled in its turn, and whether an event is due when time then passes
 pub data Wrong : Type 0 where
-  reported : ℕ → Wrong
+  happened : ℕ → Wrong
   tick : (taken caused : List ℕ) (inTurn due : Bool) → Wrong
 
 pub data Question : Type 0 where
-  reportOf : List Step → ℕ → Question
+  happenAfter : List Step → ℕ → Question
   guardedTick : Question
 
 -- what the check says, which reasons apply, and what goes wrong
@@ -62,7 +62,7 @@ pub record Case : Type 0 where
   pub told : Shown
 
 unfoldable pub goes : Table → Marking → Question → Wrong
-goes t m (reportOf steps e) = reported (report t (endOf t m steps) e .number)
+goes t m (happenAfter steps e) = happened (happen t (endOf t m steps) e .number)
 goes t m guardedTick = tick (order t m) (caused t m) (inTurn t m (caused t m)) (anyDue (effects t m (caused t m)))
 
 unfoldable pub shown : Case → Shown
@@ -90,12 +90,12 @@ hidden = shop.pendingWithin false 0
 
 unfoldable pub cases : List Case
 cases =
-    -- an uncontrollable event is left of a condition: its report is answered 10
-    rejectedBy 1 0 (shop.table 2 2 3 (shop.condition 0 1 0 ∷ [])) (shop.marking (shop.idle ∷ shop.idle ∷ [])) (reportOf [] 0) (reported 10)
-    -- it is right of an exclusion: after the excluding event its report is answered 10
-    ∷ rejectedBy 1 0 (shop.table 2 2 3 (shop.excludes 1 0 ∷ [])) (shop.marking (shop.idle ∷ shop.idle ∷ [])) (reportOf (shop.request 1 ∷ []) 0) (reported 10)
+    -- an uncontrollable event is left of a condition: where it happens it is answered 10
+    rejectedBy 1 0 (shop.table 2 2 3 (shop.condition 0 1 0 ∷ [])) (shop.marking (shop.idle ∷ shop.idle ∷ [])) (happenAfter [] 0) (happened 10)
+    -- it is right of an exclusion: after the excluding event it is answered 10
+    ∷ rejectedBy 1 0 (shop.table 2 2 3 (shop.excludes 1 0 ∷ [])) (shop.marking (shop.idle ∷ shop.idle ∷ [])) (happenAfter (shop.happens 1 ∷ []) 0) (happened 10)
     -- it is excluded in the marking
-    ∷ rejectedBy 1 0 (shop.table 2 2 3 []) (shop.marking (shop.excluded ∷ shop.idle ∷ [])) (reportOf [] 0) (reported 10)
+    ∷ rejectedBy 1 0 (shop.table 2 2 3 []) (shop.marking (shop.excluded ∷ shop.idle ∷ [])) (happenAfter [] 0) (happened 10)
     -- a due event is not causable: it would be caused all the same
     ∷ rejectedBy 2 0 (shop.table 1 1 0 []) (shop.marking (due ∷ [])) guardedTick (tick (0 ∷ []) (0 ∷ []) false false)
     -- a condition asks for 4 ticks, and 1 has passed: the due event would be executed while it is not enabled
@@ -114,7 +114,7 @@ cases =
 pub each-clause-needed : map shown cases ≡ map (λ c. c .told) cases
 unfolding cases rejectedBy shown reasons goes every some lowest howMany repeated belowFrom firstOf has setOf timeFits relationNumber tableNumber
     stateFits countFits recordFits markingNumber markingNumberFor judged stops blocks isEnabled withDeadline excludes includes given smallest executed
-    withInclusion effectAt effect isDue anyDue dueSet later time plainTickNumber requestNumber reportNumber report busy follows widened widenedFully closure
+    withInclusion effectAt effect isDue anyDue dueSet later time plainTickNumber happenNumber happen busy follows widened widenedFully closure
     unreportable uncausable waiting awaited onCycle reopening reviving verdict check holdsBack needed ready orderOf taken takenAll executedOf
     caused guarded inTurn effects stepNumber stepDone stepped endOf
 each-clause-needed = refl

@@ -24,7 +24,7 @@ use Rattle.rules.specs.Check.{check}
 use Rattle.rules.specs.Guard.{order, goesAhead, takenAll, caused, guarded, guardedTick}
 use Rattle.rules.specs.Trace.{endOf, runNumber, run, stepsIn, bytesNumber, runBytes}
 use Rattle.rules.specs.History.{Act, after, executionsOf, thenPass, historyOf}
-use Rattle.rules.specs.Calls.{Calls, none, requested, reported, ticked, guardedly, ran, ran-bytes, offered, actsIn}
+use Rattle.rules.specs.Calls.{Calls, none, happened, ticked, guardedly, ran, ran-bytes, offered, actsIn}
 use Rattle.rules.specs.Laws.Tests.{decide}
 use Rattle.rules.specs.Laws.Judge.{good}
 use Rattle.rules.specs.Laws.Fit.{fits-parts, count-small}
@@ -100,8 +100,7 @@ module _ (t : Table) where
   stays : {m end : Marking} {steps : List Step} → Calls t m steps end → steps ≡ [] → end ≡ m
   unfolding run runBytes
   stays none h = refl
-  stays (requested e answer is rest) h = absurd (omega (arith, ap (λ (l : List Step). length l) h))
-  stays (reported e answer is rest) h = absurd (omega (arith, ap (λ (l : List Step). length l) h))
+  stays (happened e answer is rest) h = absurd (omega (arith, ap (λ (l : List Step). length l) h))
   stays (ticked answer is rest) h = absurd (omega (arith, ap (λ (l : List Step). length l) h))
   stays (guardedly answer is rest) h = absurd (omega (arith, ap (λ (l : List Step). length l) h))
   stays (ran {m} played room answer is rest) h =

@@ -82,9 +82,9 @@ module _ (t : Table) (X : ℕ) (st : Static t X) (m : Marking) (v : Invariant t 
       }
 
   -- an uncontrollable event is enabled: it is included, and no condition or milestone has it as left
-  pub always-reported : (e : ℕ) → e < t .events → isControllable t e ≡ false → isEnabled t m e ≡ true
+  pub always-enabled : (e : ℕ) → e < t .events → isControllable t e ≡ false → isEnabled t m e ≡ true
   unfolding isEnabled blocks
-  always-reported e b h = join (v .uncontrollable-included e b h) (ap not (some-false (blocks t m e) (t .count) (λ k c. denied (blocks t m e k) (blocked k c))))
+  always-enabled e b h = join (v .uncontrollable-included e b h) (ap not (some-false (blocks t m e) (t .count) (λ k c. denied (blocks t m e k) (blocked k c))))
     where
       blocked : (k : ℕ) → k < t .count → blocks t m e k ≡ true → ⊥
       blocked k c q =

@@ -11,7 +11,7 @@ use Rattle.rules.specs.Effect.{effect}
 use Rattle.rules.specs.Time.{time}
 use Rattle.rules.specs.Guard.{caused, guarded}
 use Rattle.rules.specs.Remedy.{effects}
-use Rattle.rules.specs.Trace.{reportKind, plainTickKind, stepNumber, stepDone, stepped, endOf}
+use Rattle.rules.specs.Trace.{lastHappenKind, plainTickKind, stepNumber, stepDone, stepped, endOf}
 use Rattle.rules.specs.History.{Act, executes, passes, after, thenPass, actsOf, historyOf}
 use Rattle.rules.specs.Laws.Taken.{guarded-is}
 
@@ -32,7 +32,7 @@ module _ (t : Table) where
 
   pub after-acts : (m : Marking) (s : Step) → after t m (actsOf t m s) ≡ stepped t m s
   unfolding actsOf stepped stepDone after
-  after-acts m s = go (eqb (stepNumber t m s) 0) (leb (s .kind) reportKind) (eqb (s .kind) plainTickKind)
+  after-acts m s = go (eqb (stepNumber t m s) 0) (leb (s .kind) lastHappenKind) (eqb (s .kind) plainTickKind)
     where
       go : (d a p : Bool) → after t m (cond d (cond a (executes (s .event) ∷ []) (cond p (passes ∷ []) (thenPass (caused t m)))) [])
           ≡ cond d (cond a (effect t m (s .event)) (cond p (time m) (guarded t m))) m

@@ -5,10 +5,9 @@ use mathlib.Core.Path.{_≡_, refl, _∙_, ap, sym, subst}
 use mathlib.Core.Bool.{Bool, true, false, cond}
 use mathlib.Core.List.{List, [], _∷_, _++_}
 use mathlib.Core.Logic.{_⊎_, inl, inr}
-use Prim.Native.Nat.{ℕ, _≤_}
-use native.Mathlib.Omega.{arith}
+use Prim.Native.Nat.{ℕ}
 use lib.Dec.{eqb, leb}
-use borrow.Author.Tests.{eqb-true, eqb-false, leb-true}
+use borrow.Author.Tests.{eqb-true}
 use Rattle.rules.specs.declared.Table.{Table}
 use Rattle.rules.specs.declared.Marking.{Marking}
 use Rattle.rules.specs.declared.Step.{Step}
@@ -16,19 +15,17 @@ use Rattle.rules.specs.declared.MarkingAnswer.{MarkingAnswer}
 use Rattle.rules.specs.declared.GuardedAnswer.{GuardedAnswer}
 use Rattle.rules.specs.Numbers.{_if_, done}
 use Rattle.rules.specs.Holds.{recordOf}
-use Rattle.rules.specs.Enabled.{isEnabled}
 use Rattle.rules.specs.Effect.{effect}
 use Rattle.rules.specs.Time.{time, plainTick}
-use Rattle.rules.specs.Ask.{requestNumber, reportNumber}
+use Rattle.rules.specs.Happen.{happen}
 use Rattle.rules.specs.Guard.{order, goesAhead, taken, executedOf, caused, guardedTick}
-use Rattle.rules.specs.Trace.{requestKind, reportKind, plainTickKind, wrongStep, stepNumber, stepped, endOf}
+use Rattle.rules.specs.Trace.{lastHappenKind, plainTickKind, wrongStep, stepNumber, stepped, endOf}
 use Rattle.rules.specs.Trace.{runNumber, run, stepsIn, bytesNumber, runBytes}
 use Rattle.rules.specs.History.{Act, executes, passes, after, thenPass, actsOf, historyOf}
-use Rattle.rules.specs.Calls.{Calls, none, requested, reported, ticked, guardedly, ran, ran-bytes, offered, listed, actsIn}
-use Rattle.rules.specs.Shapes.Asked.{askNumber, asked}
+use Rattle.rules.specs.Calls.{Calls, none, happened, ticked, guardedly, ran, ran-bytes, offered, listed, actsIn}
 use Rattle.rules.specs.Laws.Tests.{decide}
 use Rattle.rules.specs.Laws.Numbers.{both-done, by-number, done-alike}
-use Rattle.rules.specs.Laws.Ask.{asked-request, asked-report, ask-granted, asked-granted}
+use Rattle.rules.specs.Laws.Happen.{happen-granted, call-granted}
 use Rattle.rules.specs.Laws.HoldUp.{enabled-included}
 use Rattle.rules.specs.Laws.Taken.{ahead-included, taken-in, taken-out, tick-listed}
 use Rattle.rules.specs.Demand3.Leading.{after-join, after-guarded, after-acts, after-history}
@@ -44,20 +41,12 @@ pub record RunsTo (t : Table) (m : Marking) (acts : List Act) (end : Marking) : 
   pub runs : Runs t m acts
   pub leads : after t m acts ≡ end
 
--- a request or a report that is granted as a step was of an included event
-step-included : (t : Table) (m : Marking) (s : Step) → stepNumber t m s ≡ 0 → leb (s .kind) reportKind ≡ true → recordOf m (s .event) .included ≡ true
-unfolding stepNumber requestNumber reportNumber askNumber
-step-included t m s h asks =
-    enabled-included t m (s .event)
-    (go _ (eqb (s .kind) requestKind) (eqb (s .kind) reportKind) refl refl (both-done (15 if wrongStep (s .kind) (s .event)) _ h .1))
-  where
-    go : (tick : ℕ) (request report : Bool) → eqb (s .kind) requestKind ≡ request → eqb (s .kind) reportKind ≡ report
-        → cond request (requestNumber t m (s .event)) (cond report (reportNumber t m (s .event)) tick) ≡ 0 → isEnabled t m (s .event) ≡ true
-    go tick true report p q n = ask-granted true t m (s .event) n
-    go tick false true p q n = ask-granted false t m (s .event) n
-    go tick false false p q n =
-        let neither : s .kind ≤ reportKind = leb-true (s .kind) reportKind asks in
-        absurd (omega (arith, neither, eqb-false (s .kind) requestKind p, eqb-false (s .kind) reportKind q))
+-- an event that happened, granted as a step, was included
+step-included : (t : Table) (m : Marking) (s : Step) → stepNumber t m s ≡ 0 → leb (s .kind) lastHappenKind ≡ true → recordOf m (s .event) .included ≡ true
+unfolding stepNumber
+step-included t m s h happens =
+    let granted = both-done (15 if wrongStep (s .kind) (s .event)) _ h .1 in
+    enabled-included t m (s .event) (happen-granted t m (s .event) (rw happens at granted))
 
 module _ (t : Table) where
   runs-join : {m : Marking} {a : List Act} (b : List Act) → Runs t m a → Runs t (after t m a) b → Runs t m (a ++ b)
@@ -86,9 +75,9 @@ module _ (t : Table) where
 
   step-runs : (m : Marking) (s : Step) → Runs t m (actsOf t m s)
   unfolding actsOf
-  step-runs m s = go (eqb (stepNumber t m s) 0) (leb (s .kind) reportKind) (eqb (s .kind) plainTickKind) refl refl
+  step-runs m s = go (eqb (stepNumber t m s) 0) (leb (s .kind) lastHappenKind) (eqb (s .kind) plainTickKind) refl refl
     where
-      go : (d a p : Bool) → eqb (stepNumber t m s) 0 ≡ d → leb (s .kind) reportKind ≡ a
+      go : (d a p : Bool) → eqb (stepNumber t m s) 0 ≡ d → leb (s .kind) lastHappenKind ≡ a
           → Runs t m (cond d (cond a (executes (s .event) ∷ []) (cond p (passes ∷ []) (thenPass (caused t m)))) [])
       go true true p n k = executing (step-included t m s (eqb-true (stepNumber t m s) 0 n) k) ends
       go true false true n k = passing ends
@@ -119,11 +108,11 @@ module _ (t : Table) where
   abbrev Told : Marking → List Act → MarkingAnswer → Type 0
   Told m acts answer = RunsTo t m (done (answer .number) acts []) (answer .marking)
 
-  asked-runs : (wanted : Bool) (m : Marking) (e : ℕ) → Told m (executes e ∷ []) (asked wanted t m e)
-  unfolding asked after
-  asked-runs wanted m e =
-      to-done (asked wanted t m e .number)
-      (λ granted. record { runs = executing (enabled-included t m e (asked-granted wanted t m e granted)) ends; leads = refl })
+  happened-runs : (m : Marking) (e : ℕ) → Told m (executes e ∷ []) (happen t m e)
+  unfolding happen after
+  happened-runs m e =
+      to-done (happen t m e .number)
+      (λ granted. record { runs = executing (enabled-included t m e (call-granted t m e granted)) ends; leads = refl })
 
   tick-runs : (m : Marking) → Told m (passes ∷ []) (plainTick t m)
   unfolding plainTick after
@@ -148,10 +137,7 @@ module _ (t : Table) where
   pub calls-run : {m end : Marking} {steps : List Step} (calls : Calls t m steps end) → RunsTo t m (actsIn calls) end
   unfolding actsIn after run runBytes
   calls-run none = record { runs = ends; leads = refl }
-  calls-run (requested {m} e answer is rest) =
-      to-join (subst (Told m (executes e ∷ [])) (asked-request t m e ∙ sym is) (asked-runs true m e)) (calls-run rest)
-  calls-run (reported {m} e answer is rest) =
-      to-join (subst (Told m (executes e ∷ [])) (asked-report t m e ∙ sym is) (asked-runs false m e)) (calls-run rest)
+  calls-run (happened {m} e answer is rest) = to-join (subst (Told m (executes e ∷ [])) (sym is) (happened-runs m e)) (calls-run rest)
   calls-run (ticked {m} answer is rest) = to-join (subst (Told m (passes ∷ [])) (sym is) (tick-runs m)) (calls-run rest)
   calls-run (guardedly {m} answer is rest) =
       to-join (subst (λ (a : GuardedAnswer). RunsTo t m (done (a .number) (thenPass (listed a)) []) (a .marking)) (sym is) (listed-runs m)) (calls-run rest)

@@ -1,22 +1,18 @@
--- Demand 3. Over every table and marking that the check accepts, and every list of steps from there: requests, reports, plain ticks and guarded
--- ticks, granted or refused, with any event numbers and of any kind. Each statement is a reading of one invariant. Assumes nothing.
-use mathlib.Core.Path.{_≡_, refl, subst}
-use mathlib.Core.Bool.{Bool, true, false, not}
+-- Demand 3. Over every table and marking that the check accepts, and every list of steps from there: events that happen, plain ticks and
+-- guarded ticks, granted or refused, with any event numbers and of any kind. Each statement is a reading of one invariant. Assumes nothing.
+use mathlib.Core.Path.{_≡_, subst}
+use mathlib.Core.Bool.{true, false}
 use mathlib.Core.List.{List, _++_}
 use Prim.Native.Nat.{ℕ, _<_}
-use native.Mathlib.Omega.{arith}
-use lib.Dec.{ltb}
-use borrow.Author.Tests.{ltb-true, lt-ltb}
+use borrow.Author.Tests.{lt-ltb}
 use Rattle.rules.specs.declared.Table.{Table}
 use Rattle.rules.specs.declared.Marking.{Marking}
 use Rattle.rules.specs.declared.Step.{Step}
 use Rattle.rules.specs.declared.CheckAnswer.the-variants.{Accepts}
-use Rattle.rules.specs.Numbers.{_if_, _else_}
 use Rattle.rules.specs.EventSet.{has}
 use Rattle.rules.specs.Holds.{isControllable, recordOf}
-use Rattle.rules.specs.Enabled.{isEnabled}
 use Rattle.rules.specs.Effect.{deadlineOf, effect}
-use Rattle.rules.specs.Ask.{reportNumber, report}
+use Rattle.rules.specs.Happen.{happenNumber, happen}
 use Rattle.rules.specs.Closure.{closure}
 use Rattle.rules.specs.Check.{check}
 use Rattle.rules.specs.Guard.{guardedTick}
@@ -26,7 +22,7 @@ use Rattle.rules.specs.History.{Act, after, passesIn, historyOf}
 use Rattle.rules.specs.Deadline.{Duty, noLater, Ends, Settles, Met}
 use Rattle.rules.specs.Laws.Judge.{good}
 use Rattle.rules.specs.Demand3.Facts.{deadline-no-later}
-use Rattle.rules.specs.Demand3.Invariant.{Static, Invariant, always-reported}
+use Rattle.rules.specs.Demand3.Invariant.{Static, Invariant, always-enabled}
 use Rattle.rules.specs.Demand3.Accepts.{closure-static, closure-invariant, closure-least, suffices, check-parts, check-accepts}
 use Rattle.rules.specs.Demand3.Leading.{after-history}
 use Rattle.rules.specs.Demand3.Calm.{Calm, calm-rest, kept, history-calm, deadline-met, settled-or-stays, firm-met}
@@ -72,22 +68,12 @@ module _ (t : Table) (m : Marking) (accepted : check t m ≡ Accepts) where
       → (x d : ℕ) → x < t .events → Duty (after t m before) x d → d < passesIn rest → Met t (Ends t x) (after t m before) d rest
   deadline-kept-firm firm steps before rest split x d b duty l = firm-met firm (deadline-kept steps before rest split x d b duty l)
 
-  -- 4. Beyond the demand. A report of an uncontrollable event is always granted, so no report is answered 10 ..
-  pub report-granted : (steps : List Step) (e : ℕ) → e < t .events → isControllable t e ≡ false → report t (endOf t m steps) e .number ≡ 0
-  unfolding report reportNumber
-  report-granted steps e b h =
+  -- 4. Beyond the demand. An uncontrollable event that happens is always done ..
+  pub always-done : (steps : List Step) (e : ℕ) → e < t .events → isControllable t e ≡ false → happen t (endOf t m steps) e .number ≡ 0
+  unfolding happen happenNumber
+  always-done steps e b h =
       let v = invariant steps in
-      rw (v .judged-done, lt-ltb e (t .events) b, h, always-reported t (closure t m) static (endOf t m steps) v e b h)
-
-  pub report-never-10 : (steps : List Step) (e : ℕ) → report t (endOf t m steps) e .number ≡ 10 → ⊥
-  unfolding report reportNumber
-  report-never-10 steps e h = go (ltb e (t .events)) (isControllable t e) refl refl (rw (invariant steps .judged-done) at h)
-    where
-      go : (there own : Bool) → ltb e (t .events) ≡ there → isControllable t e ≡ own
-          → 8 if not there else 9 if own else 10 if not (isEnabled t (endOf t m steps) e) ≡ 10 → ⊥
-      go false own p q n = omega (arith, n)
-      go true true p q n = omega (arith, n)
-      go true false p q n = omega (arith, h, report-granted steps e (ltb-true e (t .events) p) q)
+      rw (v .judged-done, lt-ltb e (t .events) b, always-enabled t (closure t m) static (endOf t m steps) v e b h)
 
   -- .. and the closure never grows, whatever is executed and whenever time passes.
   pub closure-never-grows : (acts : List Act) (x : ℕ) → has (closure t (after t m acts)) x ≡ true → has (closure t m) x ≡ true

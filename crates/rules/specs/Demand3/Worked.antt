@@ -18,7 +18,7 @@ use Rattle.rules.specs.Judge.{timeFits, relationNumber, tableNumber, sta
 use Rattle.rules.specs.Enabled.{stops, blocks, isEnabled}
 use Rattle.rules.specs.Effect.{withDeadline, excludes, includes, given, smallest, executed, withInclusion, effectAt, effect}
 use Rattle.rules.specs.Time.{isDue, anyDue, dueSet, later, time, plainTickNumber}
-use Rattle.rules.specs.Ask.{requestNumber, reportNumber}
+use Rattle.rules.specs.Happen.{happenNumber}
 use Rattle.rules.specs.Closure.{busy, follows, widened, widenedFully, closure}
 use Rattle.rules.specs.Check.{unreportable, uncausable, waiting, awaited, onCycle, reopening, reviving, verdict, check}
 use Rattle.rules.specs.Guard.{holdsBack, needed, ready, orderOf, taken, takenAll, executedOf, caused, guarded}
@@ -32,7 +32,7 @@ use Rattle.rules.specs.Demand3.Statements.{deadline-kept, deadline-kept-
 pub leak-history : historyOf shop.P shop.start (shop.leakThenThree ++ (shop.plain ∷ shop.guarded ∷ []))
     ≡ executes 0 ∷ passes ∷ passes ∷ passes ∷ executes 2 ∷ executes 4 ∷ executes 1 ∷ passes ∷ []
 unfolding historyOf actsOf thenPass every some lowest howMany repeated belowFrom firstOf has setOf stops blocks isEnabled withDeadline excludes
-    includes given smallest executed withInclusion effectAt effect isDue anyDue dueSet later time plainTickNumber requestNumber reportNumber
+    includes given smallest executed withInclusion effectAt effect isDue anyDue dueSet later time plainTickNumber happenNumber
     busy follows widened widenedFully closure unreportable uncausable waiting awaited onCycle reopening reviving verdict holdsBack needed ready
     orderOf taken takenAll executedOf caused guarded stepNumber stepDone stepped
 leak-history = refl
@@ -54,7 +54,7 @@ accepted = refl
 
 history-is : historyOf shop.P shop.start steps ≡ (executes 0 ∷ []) ++ afterLeak
 unfolding historyOf actsOf thenPass every some lowest howMany repeated belowFrom firstOf has setOf stops blocks isEnabled withDeadline excludes
-    includes given smallest executed withInclusion effectAt effect isDue anyDue dueSet later time plainTickNumber requestNumber reportNumber
+    includes given smallest executed withInclusion effectAt effect isDue anyDue dueSet later time plainTickNumber happenNumber
     busy follows widened widenedFully closure unreportable uncausable waiting awaited onCycle reopening reviving verdict holdsBack needed ready
     orderOf taken takenAll executedOf caused guarded stepNumber stepDone stepped
 history-is = refl
@@ -139,7 +139,7 @@ firm-accepted = refl
 
 firm-history : historyOf firmP shop.start firmSteps ≡ untilRepeat ++ afterRepeat
 unfolding historyOf actsOf thenPass every some lowest howMany repeated belowFrom firstOf has setOf stops blocks isEnabled withDeadline excludes
-    includes given smallest executed withInclusion effectAt effect isDue anyDue dueSet later time plainTickNumber requestNumber reportNumber
+    includes given smallest executed withInclusion effectAt effect isDue anyDue dueSet later time plainTickNumber happenNumber
     busy follows widened widenedFully closure unreportable uncausable waiting awaited onCycle reopening reviving verdict holdsBack needed ready
     orderOf taken takenAll executedOf caused guarded stepNumber stepDone stepped
 firm-history = refl

@@ -25,7 +25,7 @@ use Rattle.rules.specs.Image.{eventsIn, recordImage, eventImage, marking
 use Rattle.rules.specs.Carrying.{carryNumber}
 use Rattle.rules.specs.Enabled.{enabledAnswer}
 use Rattle.rules.specs.Time.{dueAnswer, plainTickNumber, plainTick}
-use Rattle.rules.specs.Ask.{requestNumber, reportNumber, request, report}
+use Rattle.rules.specs.Happen.{happenNumber, happen}
 use Rattle.rules.specs.Margin.{outright, marginOf, margin}
 use Rattle.rules.specs.HoldUp.{holdUpOf, holdUp}
 use Rattle.rules.specs.Chain.{chainNumber, chainAnswer}
@@ -127,13 +127,9 @@ module _ (P : ℕ → Type 0) (each : (number : ℕ) → given number ≡ true �
   class-told-given table event = search (if-given, else-given, table-image-given) depth 8
 
   -- the calls' own numbers
-  request-given : (t : Table) (m : Marking) (e : ℕ) → P (requestNumber t m e)
-  unfolding requestNumber
-  request-given t m e = search (if-given, else-given) depth 8
-
-  report-given : (t : Table) (m : Marking) (e : ℕ) → P (reportNumber t m e)
-  unfolding reportNumber
-  report-given t m e = search (if-given, else-given) depth 8
+  happen-given : (t : Table) (m : Marking) (e : ℕ) → P (happenNumber t m e)
+  unfolding happenNumber
+  happen-given t m e = search (if-given, else-given) depth 8
 
   plain-tick-given : (m : Marking) → P (plainTickNumber m)
   unfolding plainTickNumber
@@ -153,7 +149,7 @@ module _ (P : ℕ → Type 0) (each : (number : ℕ) → given number ≡ true �
 
   step-given : (t : Table) (m : Marking) (s : Step) → P (stepNumber t m s)
   unfolding stepNumber
-  step-given t m s = search (if-given, else-given, cond-given (λ (n : ℕ). n), request-given, report-given, plain-tick-given, verdict-given) depth 8
+  step-given t m s = search (if-given, else-given, cond-given (λ (n : ℕ). n), happen-given, plain-tick-given, verdict-given) depth 8
 
   answers-given : (t : Table) (m : Marking) (steps : List Step) (i : ℕ) → P (getD (answersOf t m steps) i 0)
   unfolding answersOf
@@ -226,7 +222,7 @@ module _ (P : ℕ → Type 0) (each : (number : ℕ) → given number ≡ true �
         go false (suc i) b = each 0 refl
 
   pub every-call : EveryCall P
-  unfolding readTable readMarking writeTableNumber writeNumber carryNumber fresh enabledAnswer dueAnswer request report plainTick chainNumber chainAnswer closureAnswer guardedTick remedy run runAnswers runBytes runBytesAnswers heardNumber
+  unfolding readTable readMarking writeTableNumber writeNumber carryNumber fresh enabledAnswer dueAnswer happen plainTick chainNumber chainAnswer closureAnswer guardedTick remedy run runAnswers runBytes runBytesAnswers heardNumber
   every-call = record {
     of-read-table = table-image-given;
     of-read-marking = marking-image-given;
@@ -238,8 +234,7 @@ module _ (P : ℕ → Type 0) (each : (number : ℕ) → given number ≡ true �
     of-judge-marking = marking-for-given;
     of-enabled = λ t m e. search (if-given, else-given, judged-given);
     of-due = judged-given;
-    of-request = λ t m e. search (else-given, judged-given, request-given);
-    of-report = λ t m e. search (else-given, judged-given, report-given);
+    of-happen = λ t m e. search (else-given, judged-given, happen-given);
     of-plain-tick = λ t m. search (else-given, judged-given, plain-tick-given);
     of-margin = margin-given;
     of-hold-up = hold-up-given;
@@ -255,8 +250,9 @@ module _ (P : ℕ → Type 0) (each : (number : ℕ) → given number ≡ true �
     of-heard = λ kept beyond room. search if-given;
     of-station = station-given;
     of-station-answers = station-answers-given;
-    of-images = images-given;
-    of-guard = guard-given;
+    of-images = λ table marking own p. else-given (imagesNumber table marking) own (images-given table marking) p;
+    of-guard = λ table marking room own p. else-given (guardNumber table marking room) own (guard-given table marking room) p;
+    of-fresh-image = λ events room. search (if-given, else-given) depth 8;
     of-fields = fields-given;
     of-build = build-given;
     of-relation-told = relation-told-given;
@@ -266,6 +262,9 @@ module _ (P : ℕ → Type 0) (each : (number : ℕ) → given number ≡ true �
 pub never : (n : ℕ) → given n ≡ false → Never n
 never n none = every-call (λ number. number ≡ n → ⊥) (λ number g e. clash g (rw e none))
 
--- no call gives a number above 15
+-- no call gives a number above 15, and none gives 9
 pub never-above : (n : ℕ) → 15 < n → Never n
-never-above n above = never n (lt-leb n 15 above)
+never-above n above = never n (rw (lt-leb n 15 above))
+
+pub never-nine : Never 9
+never-nine = never 9 refl

@@ -3,7 +3,7 @@
 use mathlib.Core.Path.{_≡_, refl, _∙_, ap, sym, subst}
 use mathlib.Core.Bool.{Bool, true, false, not, _||_, cond}
 use mathlib.Core.List.{List, [], _∷_, _++_}
-use Prim.Native.Nat.{ℕ, suc, _<_, _≤_, _+_, _*_, _/_, _%_}
+use Prim.Native.Nat.{ℕ, zero, suc, _<_, _≤_, _+_, _*_, _/_, _%_}
 use native.Mathlib.Numerals.{add-one}
 use native.Mathlib.Omega.{arith}
 use lib.Dec.{eqb, leb, ltb}
@@ -18,15 +18,14 @@ use Rattle.rules.specs.Numbers.{_if_, done, checkNumber}
 use Rattle.rules.specs.Judge.{judged}
 use Rattle.rules.specs.Effect.{effect}
 use Rattle.rules.specs.Time.{time, plainTickNumber}
-use Rattle.rules.specs.Ask.{requestNumber, reportNumber}
+use Rattle.rules.specs.Happen.{happenNumber}
 use Rattle.rules.specs.Check.{verdict}
 use Rattle.rules.specs.Guard.{order, goesAhead, taken, takenAll, guarded}
-use Rattle.rules.specs.Trace.{requestKind, reportKind, plainTickKind, guardedTickKind, mostSteps, wrongStep}
+use Rattle.rules.specs.Trace.{lastHappenKind, plainTickKind, guardedTickKind, mostSteps, wrongStep}
 use Rattle.rules.specs.Trace.{stepNumber, stepDone, stepped, endOf, answersOf, traceNumber, stepsIn, bytesNumber, runBytes, runBytesAnswers}
 use Rattle.rules.specs.Laws.Tests.{join, or-left, or-right, neither}
 use Rattle.rules.specs.Laws.Numbers.{if-done, both-done}
 use Rattle.rules.specs.Laws.Counting.{length-places, places-at}
-use Rattle.rules.specs.Shapes.Asked.{askNumber}
 use Rattle.rules.specs.Demand3.Facts.{effect-judged, time-judged}
 
 -- running a trace and then another is running both
@@ -86,7 +85,7 @@ module _ (t : Table) where
 
   pub stepped-judged : (m : Marking) (s : Step) → judged t m ≡ 0 → judged t (stepped t m s) ≡ 0
   unfolding stepped stepDone
-  stepped-judged m s h = go (eqb (stepNumber t m s) 0) (leb (s .kind) reportKind) (eqb (s .kind) plainTickKind)
+  stepped-judged m s h = go (eqb (stepNumber t m s) 0) (leb (s .kind) lastHappenKind) (eqb (s .kind) plainTickKind)
     where
       go : (a b c : Bool) → judged t (cond a (cond b (effect t m (s .event)) (cond c (time m) (guarded t m))) m) ≡ 0
       go true true c = effect-judged t m (s .event) h
@@ -107,12 +106,12 @@ turned t m kind event =
 
 -- by its kind
 module _ (t : Table) (m : Marking) (event : ℕ) where
-  pub turned-ask : (controllable : Bool)
-      → record { number = askNumber controllable t m event; marking = done (askNumber controllable t m event) (effect t m event) m }
-      ≡ turned t m (cond controllable requestKind reportKind) event
-  unfolding turned stepped stepNumber stepDone askNumber requestNumber reportNumber
-  turned-ask true = refl
-  turned-ask false = refl
+  pub turned-happen : (kind : ℕ) → kind ≤ lastHappenKind
+      → record { number = happenNumber t m event; marking = done (happenNumber t m event) (effect t m event) m } ≡ turned t m kind event
+  unfolding turned stepped stepNumber stepDone
+  turned-happen zero few = refl
+  turned-happen (suc zero) few = refl
+  turned-happen (suc (suc kind)) few = absurd (omega arith)
 
   -- a tick has event 0
   pub turned-tick : event ≡ 0 → record { number = plainTickNumber m; marking = done (plainTickNumber m) (time m) m } ≡ turned t m plainTickKind event
@@ -128,13 +127,12 @@ module _ (t : Table) (m : Marking) (event : ℕ) where
   unfolding turned stepped stepNumber
   turned-wrong kind h = rw h
 
--- a kind that is neither request nor report and has an event, and one that is none of the four
-pub wrong-event : (kind event : ℕ) → (kind ≡ requestKind → ⊥) → (kind ≡ reportKind → ⊥) → (event ≡ 0 → ⊥) → wrongStep kind event ≡ true
-wrong-event kind event a b e = or-right (ltb guardedTickKind kind) _ (join (le-leb plainTickKind kind (omega arith)) (ap not (ne-eqb event 0 e)))
+-- a tick's kind with an event, and one that is none of the four
+pub wrong-event : (kind event : ℕ) → lastHappenKind < kind → (event ≡ 0 → ⊥) → wrongStep kind event ≡ true
+wrong-event kind event more e = or-right (ltb guardedTickKind kind) _ (join (le-leb plainTickKind kind (omega arith)) (ap not (ne-eqb event 0 e)))
 
-pub wrong-kind : (kind event : ℕ) → (kind ≡ requestKind → ⊥) → (kind ≡ reportKind → ⊥) → (kind ≡ plainTickKind → ⊥) → (kind ≡ guardedTickKind → ⊥)
-    → wrongStep kind event ≡ true
-wrong-kind kind event a b c d = or-left (ltb guardedTickKind kind) _ (lt-ltb guardedTickKind kind (omega arith))
+pub wrong-kind : (kind event : ℕ) → guardedTickKind < kind → wrongStep kind event ≡ true
+wrong-kind kind event more = or-left (ltb guardedTickKind kind) _ (lt-ltb guardedTickKind kind more)
 
 -- Bytes as steps
 abbrev pub noStep : Step

@@ -22,7 +22,7 @@ use Rattle.rules.specs.Image.{headerImage, classImage, placeImage, table
 use Rattle.rules.specs.Image.{eventImage, markingImage, writeNumber, writeMarking}
 use Rattle.rules.specs.Enabled.{enabledAnswer}
 use Rattle.rules.specs.Time.{dueAnswer, plainTick}
-use Rattle.rules.specs.Ask.{request, report}
+use Rattle.rules.specs.Happen.{happen}
 use Rattle.rules.specs.Margin.{margin}
 use Rattle.rules.specs.HoldUp.{holdUp}
 use Rattle.rules.specs.Chain.{chain, chainNumber, chainAnswer, chainList}
@@ -38,7 +38,7 @@ use Rattle.rules.specs.Laws.Judge.{good}
 use Rattle.rules.specs.Laws.Granted.{event-exists}
 use Rattle.rules.specs.Laws.UnusedRules.{table-judged, marking-judged, marking-judged-for, both-judged, effect-agrees, time-agrees, due-set-alike}
 use Rattle.rules.specs.Laws.UnusedRules.{Agree, right-alike, enabled-alike, hold-up-alike, chain-alike, closure-alike, verdict-alike}
-use Rattle.rules.specs.Laws.UnusedTurns.{else-alike, request-alike, report-alike, plain-tick-alike}
+use Rattle.rules.specs.Laws.UnusedTurns.{else-alike, happen-alike, plain-tick-alike}
 use Rattle.rules.specs.Laws.UnusedTurns.{caused-alike, after-guarded, shortest-alike, remedy-number-alike, after-trace, answers-alike}
 
 -- An unused place may hold anything: with any other relation past the count, any other record past the event count, a table and a marking agree
@@ -153,13 +153,9 @@ module _ {t u : Table} {m n : Marking} (tables : SameTable t u) (markings : Same
   unfolding dueAnswer
   due-same = rw (both-judged tables markings, due-set-alike markings)
 
-  request-same : (e : ℕ) → SameAnswer (request t m e) (request u n e)
-  unfolding request
-  request-same e = answered _ _ (number-alike _ _ (λ a. request-alike a e)) (λ z. effect-agrees tables markings e)
-
-  report-same : (e : ℕ) → SameAnswer (report t m e) (report u n e)
-  unfolding report
-  report-same e = answered _ _ (number-alike _ _ (λ a. report-alike a e)) (λ z. effect-agrees tables markings e)
+  happen-same : (e : ℕ) → SameAnswer (happen t m e) (happen u n e)
+  unfolding happen
+  happen-same e = answered _ _ (number-alike _ _ (λ a. happen-alike a e)) (λ z. effect-agrees tables markings e)
 
   plain-tick-same : SameAnswer (plainTick t m) (plainTick u n)
   unfolding plainTick
@@ -278,8 +274,7 @@ none-looks tables markings = record {
   of-judge-marking = marking-judged-for markings;
   of-enabled = enabled-same tables markings;
   of-due = due-same tables markings;
-  of-request = request-same tables markings;
-  of-report = report-same tables markings;
+  of-happen = happen-same tables markings;
   of-plain-tick = plain-tick-same tables markings;
   of-margin = margin-same tables markings;
   of-hold-up = hold-up-same tables markings;

@@ -17,9 +17,9 @@ use Rattle.rules.specs.Numbers.{done}
 use Rattle.rules.specs.Holds.{emptyRecord, withRecords}
 use Rattle.rules.specs.Effect.{effectAt, effect}
 use Rattle.rules.specs.Time.{later, time, plainTick}
-use Rattle.rules.specs.Ask.{request, report}
+use Rattle.rules.specs.Happen.{happen}
 use Rattle.rules.specs.Guard.{order, goesAhead, taken, takenAll, guarded, guardedTick}
-use Rattle.rules.specs.Trace.{reportKind, plainTickKind, stepNumber, stepDone, stepped, endOf, run, stepsIn, runBytes}
+use Rattle.rules.specs.Trace.{lastHappenKind, plainTickKind, stepNumber, stepDone, stepped, endOf, run, stepsIn, runBytes}
 use Rattle.rules.specs.Unused.{KeepsUnused, AllKeep}
 use Rattle.rules.specs.Laws.Counting.{length-each-below, each-below-kept}
 
@@ -80,7 +80,7 @@ module _ (t : Table) where
   unfolding stepped stepDone
   step-keeps m s =
       chosen (eqb (stepNumber t m s) 0)
-      (chosen (leb (s .kind) reportKind) (effect-keeps m (s .event)) (chosen (eqb (s .kind) plainTickKind) (time-keeps m) (guarded-keeps m)))
+      (chosen (leb (s .kind) lastHappenKind) (effect-keeps m (s .event)) (chosen (eqb (s .kind) plainTickKind) (time-keeps m) (guarded-keeps m)))
       (unchanged m)
 
   trace-keeps : (m : Marking) (steps : List Step) → KeepsUnused m (endOf t m steps)
@@ -94,10 +94,9 @@ given-back number {m = m} kept = chosen (eqb number 0) kept (unchanged m)
 
 -- Other calls keep those places
 pub kept-places : (t : Table) (m : Marking) → AllKeep t m
-unfolding request report plainTick guardedTick run runBytes
+unfolding happen plainTick guardedTick run runBytes
 kept-places t m = record {
-  of-request = λ e. given-back (request t m e .number) (effect-keeps t m e);
-  of-report = λ e. given-back (report t m e .number) (effect-keeps t m e);
+  of-happen = λ e. given-back (happen t m e .number) (effect-keeps t m e);
   of-plain-tick = given-back (plainTick t m .number) (time-keeps m);
   of-guarded-tick = given-back (guardedTick t m .number) (guarded-keeps t m);
   of-run = λ steps room. given-back (run t m steps room .number) (trace-keeps t m steps);

@@ -18,11 +18,11 @@ use Rattle.rules.specs.Holds.{isCausable, relationOf, recordOf}
 use Rattle.rules.specs.Judge.{eventNumber}
 use Rattle.rules.specs.Enabled.{isEnabled}
 use Rattle.rules.specs.Time.{dueSet, plainTickNumber}
-use Rattle.rules.specs.Ask.{requestNumber, reportNumber}
+use Rattle.rules.specs.Happen.{happenNumber}
 use Rattle.rules.specs.Closure.{followed, widenedFully}
 use Rattle.rules.specs.Guard.{holdsBack, needed, ready, orderOf, order, goesAhead, taken, takenAll, executedOf, caused, guarded}
 use Rattle.rules.specs.Remedy.{inTurn, effects, discharges, shortest, remedyNumber}
-use Rattle.rules.specs.Trace.{reportKind, plainTickKind, stepNumber, stepDone, stepped, endOf, answersOf}
+use Rattle.rules.specs.Trace.{lastHappenKind, plainTickKind, stepNumber, stepDone, stepped, endOf, answersOf}
 use Rattle.rules.specs.Unused.{SameTable}
 use Rattle.rules.specs.Laws.Counting.{lowest-same}
 use Rattle.rules.specs.Laws.Granted.{event-exists}
@@ -154,17 +154,10 @@ module _ {t u : Table} {m n : Marking} (a : Agree t u m n) where
   event-number-alike : (e : ℕ) → eventNumber t e ≡ eventNumber u e
   event-number-alike e = rw (a .tables .same-events)
 
-  pub request-alike : (e : ℕ) → requestNumber t m e ≡ requestNumber u n e
-  unfolding requestNumber
-  request-alike e =
-      else-alike (eventNumber t e) (eventNumber u e) _ _ (event-number-alike e)
-      (λ h. rw (a .tables .same-controllable e (event-exists t e h), enabled-alike a e (event-exists t e h)))
-
-  pub report-alike : (e : ℕ) → reportNumber t m e ≡ reportNumber u n e
-  unfolding reportNumber
-  report-alike e =
-      else-alike (eventNumber t e) (eventNumber u e) _ _ (event-number-alike e)
-      (λ h. rw (a .tables .same-controllable e (event-exists t e h), enabled-alike a e (event-exists t e h)))
+  pub happen-alike : (e : ℕ) → happenNumber t m e ≡ happenNumber u n e
+  unfolding happenNumber
+  happen-alike e =
+      else-alike (eventNumber t e) (eventNumber u e) _ _ (event-number-alike e) (λ h. rw (enabled-alike a e (event-exists t e h)))
 
   pub plain-tick-alike : plainTickNumber m ≡ plainTickNumber n
   unfolding plainTickNumber
@@ -172,14 +165,14 @@ module _ {t u : Table} {m n : Marking} (a : Agree t u m n) where
 
   step-alike : (s : Step) → stepNumber t m s ≡ stepNumber u n s
   unfolding stepNumber
-  step-alike s = rw (request-alike (s .event), report-alike (s .event), plain-tick-alike, verdict-alike a)
+  step-alike s = rw (happen-alike (s .event), plain-tick-alike, verdict-alike a)
 
   after-step : (s : Step) → Agree t u (stepped t m s) (stepped u n s)
   unfolding stepped stepDone
   after-step s =
       rw (step-alike s)
       (chosen (eqb (stepNumber u n s) 0)
-      (chosen (leb (s .kind) reportKind) (after-effect a (s .event)) (chosen (eqb (s .kind) plainTickKind) (after-time a) (after-guarded a)))
+      (chosen (leb (s .kind) lastHappenKind) (after-effect a (s .event)) (chosen (eqb (s .kind) plainTickKind) (after-time a) (after-guarded a)))
       a)
 
 module _ {t u : Table} where

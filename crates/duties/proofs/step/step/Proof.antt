@@ -3,16 +3,16 @@ use mathlib.Core.Logic.{⊎-elim, inl, inr}
 use native.Mathlib.Omega.{arith}
 use borrow.Author.Tests.{ltb-true, ltb-false}
 use Rattle.acts.specs.Laws.Linked.{derived-own}
-use Rattle.duties.specs.Laws.Step.{ask-turned, wrong-turned, tick-turned}
+use Rattle.duties.specs.Laws.Step.{happen-turned, wrong-turned, tick-turned}
 use borrow.Author.Needs.{needs}
 use Rattle.duties.proofs.step.step.Statement.{statement}
 use Rattle.duties.proofs.step.step.Tie as tie
 
-mul-ask : tie.Need-mul-ask
-mul-ask c = search needs
+mul-at : tie.Need-mul-at
+mul-at c = search needs
 
-ask-requires : tie.Need-ask-requires
-ask-requires c κs = search needs
+happen-requires : tie.Need-happen-requires
+happen-requires c κs = search needs
 
 returns : tie.Need-returns
 returns c =
@@ -20,8 +20,8 @@ returns c =
     let a = chosen .before .before .before .args in (
       omega arith,
       λ t tail m good derived linked head accepts stands.
-          ask-turned (a .kind) (a .event) (chosen .if1 .taken)
-          (c .ask .ensures t tail m good head (λ b. derived-own t _ _ _ _ derived linked (omega (arith, b, good .few-events))) stands),
+          happen-turned (a .kind) (a .event) (chosen .if1 .taken)
+          (c .happen .ensures t tail m good head (λ b. derived-own t _ _ _ _ derived linked (omega (arith, b, good .few-events))) stands),
     )
 
 returns-2 : tie.Need-returns-2
@@ -49,4 +49,4 @@ returns-3 c =
 
 pub step-spec : {M : Type 1} → statement M
 step-spec =
-    tie.close (tie.spec mul-ask ask-requires returns returns-2 tick-step-requires returns-3)
+    tie.close (tie.spec mul-at happen-requires returns returns-2 tick-step-requires returns-3)

@@ -15,7 +15,7 @@ use Rattle.acts.specs.declared.derived.Head.{Head}
 use Rattle.acts.specs.Derived.{headOf, Derived, Linked}
 use Rattle.acts.specs.Stands.{Stands}
 use Rattle.duties.specs.Step.{Turned}
-use Rattle.acts.specs.Laws.Asked.{head-firm}
+use Rattle.acts.specs.Laws.Happen.{head-firm}
 use Rattle.acts.specs.Laws.Stands.{tick-stands}
 use Rattle.duties.specs.Laws.Step.{tickNumber, ticked, stands-of, tick-refused, tick-done}
 use borrow.Author.Needs.{needs}

@@ -1,6 +1,5 @@
 -- By what is asked. Assumes nothing.
 use mathlib.Core.Path.{_∙_, sym, ap}
-use Rattle.rules.specs.declared.MarkingAnswer.{MarkingAnswer}
 use Rattle.duty.specs.declared.acting.Act.{Act}
 use Rattle.duty.specs.Performing.{acted}
 use borrow.Author.Needs.{needs}
@@ -10,14 +9,8 @@ use Rattle.duty.proofs.acting.answer.Tie as tie
 enum-known-act : tie.Need-enum-known-act
 enum-known-act c = search needs
 
-request-requires : tie.Need-request-requires
-request-requires c κs = search needs
-
-enum-known-act-2 : tie.Need-enum-known-act-2
-enum-known-act-2 c = search needs
-
-report-requires : tie.Need-report-requires
-report-requires c κs = search needs
+happen-requires : tie.Need-happen-requires
+happen-requires c κs = search needs
 
 enum-told : tie.Need-enum-told
 enum-told c = search needs
@@ -27,16 +20,11 @@ plain-tick-requires c κs = search needs
 
 returns : tie.Need-returns
 returns c =
-    c .request .ensures ∙ ap (λ (a : Act). acted a (c .before .before .before .before .args .t) (c .before .before .before .before .args .m))
+    c .happen .ensures ∙ ap (λ (a : Act). acted a (c .before .before .before .before .args .t) (c .before .before .before .before .args .m))
     (sym (c .before .before .act .given .1))
 
 returns-2 : tie.Need-returns-2
 returns-2 c =
-    c .report .ensures ∙ ap (λ (a : Act). acted a (c .before .before .before .before .args .t) (c .before .before .before .before .args .m))
-    (sym (c .before .before .act2 .given .1))
-
-returns-3 : tie.Need-returns-3
-returns-3 c =
     c .plain-tick .ensures ∙ ap (λ (a : Act). acted a (c .before .before .before .args .t) (c .before .before .before .args .m))
     (sym (c .before .enum-told .given .1))
 
@@ -45,11 +33,8 @@ answer-spec =
     tie.close
     (tie.spec
     enum-known-act
-    request-requires
-    enum-known-act-2
-    report-requires
+    happen-requires
     enum-told
     plain-tick-requires
     returns
-    returns-2
-    returns-3)
+    returns-2)

@@ -1,6 +1,6 @@
-// Request and report, of a judged table and marking: the event is executed if it exists, is of the class and is enabled.
-use acts::ask;
+// An event that happens, of a judged table and marking: it is executed if it exists and is enabled.
 use acts::derived;
+use acts::happen;
 use acts::laid;
 use rules::Marking;
 use rules::MarkingAnswer;
@@ -9,12 +9,12 @@ ghost use mathlib.Core.Path.{_≡_};
 ghost use Rattle.rules.specs.Numbers.{done};
 ghost use Rattle.rules.specs.Judge.{judged};
 ghost use Rattle.rules.specs.Effect.{effect};
-ghost use Rattle.rules.specs.Shapes.Asked.{askNumber};
+ghost use Rattle.rules.specs.Happen.{happenNumber};
 
 // Only the event's own row and links are made.
-pub fn asked(t: Table, m: Marking, event: usize, controllable: bool) -> MarkingAnswer
+pub fn happened(t: Table, m: Marking, event: usize) -> MarkingAnswer
     requires { ⌜ judged t m ≡ 0 ⌝ }
-    ensures { λ r. ⌜ r ≡ record { number = askNumber controllable t m event; marking = done (askNumber controllable t m event) (effect t m event) m } ⌝ }
+    ensures { λ r. ⌜ r ≡ record { number = happenNumber t m event; marking = done (happenNumber t m event) (effect t m event) m } ⌝ }
 {
     let mut row = [0; 10];
     let mut links = [0; 256];
@@ -23,17 +23,7 @@ pub fn asked(t: Table, m: Marking, event: usize, controllable: bool) -> MarkingA
     derived::own(t, event, &mut row, &mut links);
     laid::lay(m, &mut sets, &mut columns);
     let head = derived::head_of(t.controllable, t.causable, t.events, t.firm);
-    let number = ask::ask(
-        &row,
-        0,
-        &links,
-        head,
-        0,
-        &mut sets,
-        &mut columns,
-        event,
-        controllable,
-    );
+    let number = happen::happen(&row, 0, &links, head, 0, &mut sets, &mut columns, event);
     if number == 0 {
         let after = laid::give(m, 0, &sets, &columns);
         return MarkingAnswer {
