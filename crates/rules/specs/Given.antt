@@ -2,15 +2,15 @@
 use mathlib.Core.Path.{_≡_}
 use mathlib.Core.Bool.{Bool, not, _&&_}
 use mathlib.Core.List.{List, [], _∷_}
-use Prim.Native.Nat.{ℕ, _<_, _*_, _/_}
-use lib.Dec.{eqb, leb, ltb}
+use Prim.Native.Nat.{ℕ, _<_, _/_}
+use lib.Dec.{eqb, leb}
 use lib.ListN.{length, getD}
 use Rattle.rules.specs.declared.Table.{Table}
 use Rattle.rules.specs.declared.Marking.{Marking}
 use Rattle.rules.specs.declared.Step.{Step}
-use Rattle.rules.specs.Numbers.{_if_, _else_, marginNumber, holdUpNumber, checkNumber}
+use Rattle.rules.specs.Numbers.{marginNumber, holdUpNumber, checkNumber}
 use Rattle.rules.specs.Judge.{tableNumber, markingNumberFor}
-use Rattle.rules.specs.Image.{recordBytes, readTable, readMarking, writeTableNumber, writeNumber, fresh}
+use Rattle.rules.specs.Image.{readTable, readMarking, writeTableNumber, writeNumber, fresh}
 use Rattle.rules.specs.Carrying.{carryNumber}
 use Rattle.rules.specs.Enabled.{enabledAnswer}
 use Rattle.rules.specs.Time.{dueAnswer, plainTick}
@@ -65,10 +65,9 @@ pub record EveryCall (P : ℕ → Type 0) : Type 0 where
   pub of-heard : (kept beyond room : ℕ) → P (heardNumber kept beyond room)
   pub of-station : (input : List ℕ) (byte : ℕ) → station input ≡ byte ∷ [] → P byte
   pub of-station-answers : (input : List ℕ) (i : ℕ) → i < length (stepsPart input) / 2 → P (getD (station input) i 0)
-  -- the calls for C: what they ask before their rule, else its number; of a fresh marking's image, a record's fields, a table built and told in numbers
-  pub of-images : (table marking : List ℕ) (own : ℕ) → P own → P (imagesNumber table marking else own)
-  pub of-guard : (table marking : List ℕ) (room own : ℕ) → P own → P (guardNumber table marking room else own)
-  pub of-fresh-image : (events room : ℕ) → P (fresh events .number else 14 if ltb room (recordBytes * events))
+  -- what the calls for C ask before their rule, of a record's fields, and of a table built and told in numbers
+  pub of-images : (table marking : List ℕ) → P (imagesNumber table marking)
+  pub of-guard : (table marking : List ℕ) (room : ℕ) → P (guardNumber table marking room)
   pub of-fields : (table marking : List ℕ) (event room : ℕ) → P (fieldsNumber table marking event room)
   pub of-build : (events firm : ℕ) (classes numbers : List ℕ) (room : ℕ) → P (buildNumber events firm classes numbers room)
   pub of-relation-told : (table : List ℕ) (relation room : ℕ) → P (relationToldNumber table relation room)

@@ -250,9 +250,8 @@ module _ (P : ℕ → Type 0) (each : (number : ℕ) → given number ≡ true �
     of-heard = λ kept beyond room. search if-given;
     of-station = station-given;
     of-station-answers = station-answers-given;
-    of-images = λ table marking own p. else-given (imagesNumber table marking) own (images-given table marking) p;
-    of-guard = λ table marking room own p. else-given (guardNumber table marking room) own (guard-given table marking room) p;
-    of-fresh-image = λ events room. search (if-given, else-given) depth 8;
+    of-images = images-given;
+    of-guard = guard-given;
     of-fields = fields-given;
     of-build = build-given;
     of-relation-told = relation-told-given;
