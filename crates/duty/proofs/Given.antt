@@ -87,7 +87,8 @@ module _ (P : ℕ → Type 0) (each : (number : ℕ) → given number ≡ true �
 
   -- a fresh marking's image, and room for it
   image-of-fresh : (events room : ℕ) → P (freshMarking events .number else 14 if ltb room (recordBytes * events))
-  image-of-fresh events room = else-given P each (freshMarking events .number) _ (every .of-fresh events) (if-given P each 14 (ltb room (recordBytes * events)) refl)
+  image-of-fresh events room =
+      else-given P each (freshMarking events .number) _ (every .of-fresh events) (if-given P each 14 (ltb room (recordBytes * events)) refl)
 
   -- what is told in numbers
   margin-told : (t : Table) (m : Marking) (k : ℕ) → P (toldMargin t m k .number)
