@@ -3,12 +3,11 @@
 //! case when their answers are equal.
 
 use crate::{
-    build_table, carry_marking, chain, check, closure, due, enabled, fresh, guarded_tick, hold_up,
-    judge_marking, judge_table, lowest, margin, plain_tick, read_marking, read_table, remedies,
-    report, request, run, run_bytes, size, station, tell_class, tell_relation, write_marking,
-    write_table, CheckAnswer, ClosureAnswer, EnabledAnswer, GuardedAnswer, HoldUpAnswer,
-    MarginAnswer, Marking, MarkingAnswer, ReadMarking, ReadTable, RemedyAnswer, SetAnswer, Step,
-    Table,
+    build_table, carry_marking, chain, check, closure, due, enabled, fresh, guarded_tick, happen,
+    hold_up, judge_marking, judge_table, lowest, margin, plain_tick, read_marking, read_table,
+    remedies, run, run_bytes, size, station, tell_class, tell_relation, write_marking, write_table,
+    CheckAnswer, ClosureAnswer, EnabledAnswer, GuardedAnswer, HoldUpAnswer, MarginAnswer, Marking,
+    MarkingAnswer, ReadMarking, ReadTable, RemedyAnswer, SetAnswer, Step, Table,
 };
 
 /// The table and marking that most calls are handed. They may be faulty.
@@ -54,11 +53,7 @@ pub enum Case {
     Due {
         pair: Pair,
     },
-    Request {
-        pair: Pair,
-        event: usize,
-    },
-    Report {
+    Happen {
         pair: Pair,
         event: usize,
     },
@@ -220,8 +215,7 @@ impl Case {
             Case::Lowest { .. } => "lowest",
             Case::Enabled { .. } => "enabled",
             Case::Due { .. } => "due",
-            Case::Request { .. } => "request",
-            Case::Report { .. } => "report",
+            Case::Happen { .. } => "happen",
             Case::PlainTick { .. } => "plain_tick",
             Case::Margin { .. } => "margin",
             Case::HoldUp { .. } => "hold_up",
@@ -246,8 +240,7 @@ impl Case {
         match self {
             Case::Enabled { pair, .. }
             | Case::Due { pair }
-            | Case::Request { pair, .. }
-            | Case::Report { pair, .. }
+            | Case::Happen { pair, .. }
             | Case::PlainTick { pair }
             | Case::Margin { pair, .. }
             | Case::HoldUp { pair, .. }
@@ -298,11 +291,8 @@ impl Case {
                 Answer::Enabled(enabled(&pair.table, &pair.marking, *event))
             }
             Case::Due { pair } => Answer::Set(due(&pair.table, &pair.marking)),
-            Case::Request { pair, event } => {
-                Answer::Marking(Box::new(request(&pair.table, &pair.marking, *event)))
-            }
-            Case::Report { pair, event } => {
-                Answer::Marking(Box::new(report(&pair.table, &pair.marking, *event)))
+            Case::Happen { pair, event } => {
+                Answer::Marking(Box::new(happen(&pair.table, &pair.marking, *event)))
             }
             Case::PlainTick { pair } => {
                 Answer::Marking(Box::new(plain_tick(&pair.table, &pair.marking)))

@@ -26,7 +26,8 @@ use crate::trace::{Step, LONGEST_TRACE};
 type Question = fn(&mut Rng) -> Case;
 
 /// The calls with the most behaviour are listed twice, to be asked more often.
-/// Chains are not listed: another length would change what every seed gives.
+/// What happens is listed by class, and chains are not listed: a class drawn, or
+/// another length, would change what every seed gives.
 const QUESTIONS: [Question; 37] = [
     read_table_case,
     read_marking_case,
@@ -39,10 +40,10 @@ const QUESTIONS: [Question; 37] = [
     lowest_case,
     enabled_case,
     due_case,
-    request_case,
-    request_case,
-    report_case,
-    report_case,
+    |rng| happen_of_class(rng, true),
+    |rng| happen_of_class(rng, true),
+    |rng| happen_of_class(rng, false),
+    |rng| happen_of_class(rng, false),
     plain_tick_case,
     margin_case,
     hold_up_case,
@@ -196,24 +197,10 @@ fn some_number(rng: &mut Rng, existing: usize) -> usize {
     ])
 }
 
-/// An event asked about, more often than not of the given class.
-fn some_event_of_class(rng: &mut Rng, table: &Table, controllable: bool) -> usize {
-    let set = from_word(table.controllable, MOST_EVENTS);
-    let fitting: Vec<usize> = (0..table.events.min(MOST_EVENTS))
-        .filter(|event| set.contains(event) == controllable)
-        .collect();
-    match rng.pick(&fitting) {
-        Some(event) if rng.chance(60) => event,
-        _ => some_number(rng, table.events),
-    }
-}
-
-/// An enabled event of the given class with a response to an event that is
-/// pending, if there is one.
-fn some_event_that_meets(rng: &mut Rng, pair: &Pair, controllable: bool) -> Option<usize> {
+/// The enabled events with a response to an event that is pending.
+fn events_that_meet(pair: &Pair) -> Vec<usize> {
     let Pair { table, marking } = pair;
-    let set = from_word(table.controllable, MOST_EVENTS);
-    let meeting: Vec<usize> = table
+    table
         .relations
         .iter()
         .take(table.count)
@@ -223,19 +210,8 @@ fn some_event_that_meets(rng: &mut Rng, pair: &Pair, controllable: bool) -> Opti
             target.is_some_and(|record| record.pending)
         })
         .map(|relation| usize::from(relation.left))
-        .filter(|event| set.contains(event) == controllable)
         .filter(|&event| enabled(table, marking, event).enabled)
-        .collect();
-    rng.pick(&meeting)
-}
-
-/// An event to ask for, of the given class more often than not, and often one
-/// that meets another with a response.
-fn some_event_to_ask(rng: &mut Rng, pair: &Pair, controllable: bool) -> usize {
-    match some_event_that_meets(rng, pair, controllable) {
-        Some(event) if rng.chance(70) => event,
-        _ => some_event_of_class(rng, &pair.table, controllable),
-    }
+        .collect()
 }
 
 /// A lent buffer for `needed` bytes with something already in it: exact, with
@@ -293,8 +269,9 @@ fn some_step(rng: &mut Rng, table: &Table, guarded_percent: usize) -> Step {
     }
     let event = rng.below(table.events.min(MOST_EVENTS));
     let controllable = from_word(table.controllable, MOST_EVENTS);
-    let fitting = if controllable.contains(&event) { 0 } else { 1 };
-    let kind = if rng.chance(90) { fitting } else { 1 - fitting };
+    // Old traces tell the two kinds apart by the class, and so do most of these.
+    let old = if controllable.contains(&event) { 0 } else { 1 };
+    let kind = if rng.chance(90) { old } else { 1 - old };
     Step {
         kind,
         event: event as u8,
@@ -460,16 +437,28 @@ pub fn due_case(rng: &mut Rng) -> Case {
     Case::Due { pair: pair(rng) }
 }
 
-pub fn request_case(rng: &mut Rng) -> Case {
+/// The event is of the given class more often than not, and often one that meets
+/// another with a response.
+fn happen_of_class(rng: &mut Rng, controllable: bool) -> Case {
     let pair = pair(rng);
-    let event = some_event_to_ask(rng, &pair, true);
-    Case::Request { pair, event }
+    let set = from_word(pair.table.controllable, MOST_EVENTS);
+    let fits = |event: &usize| set.contains(event) == controllable;
+    let events = pair.table.events.min(MOST_EVENTS);
+    let fitting: Vec<usize> = (0..events).filter(fits).collect();
+    let meeting: Vec<usize> = events_that_meet(&pair).into_iter().filter(fits).collect();
+    let event = match rng.pick(&meeting) {
+        Some(event) if rng.chance(70) => event,
+        _ => match rng.pick(&fitting) {
+            Some(event) if rng.chance(60) => event,
+            _ => some_number(rng, pair.table.events),
+        },
+    };
+    Case::Happen { pair, event }
 }
 
-pub fn report_case(rng: &mut Rng) -> Case {
-    let pair = pair(rng);
-    let event = some_event_to_ask(rng, &pair, false);
-    Case::Report { pair, event }
+pub fn happen_case(rng: &mut Rng) -> Case {
+    let controllable = rng.flag();
+    happen_of_class(rng, controllable)
 }
 
 pub fn plain_tick_case(rng: &mut Rng) -> Case {

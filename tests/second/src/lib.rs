@@ -3,7 +3,6 @@
 
 #![forbid(unsafe_code)]
 
-mod ask;
 mod bits;
 mod carrying;
 mod chain;
@@ -15,6 +14,7 @@ mod enabled;
 mod event_set;
 mod fresh;
 mod guarded;
+mod happen;
 mod hold_up;
 mod image;
 mod judge;
@@ -33,7 +33,6 @@ pub mod case;
 pub mod generate;
 pub mod rng;
 
-pub use ask::{report, request};
 pub use carrying::{carry_marking, OLD_RECORD_BYTES};
 pub use chain::{chain, ChainAnswer};
 pub use check::{check, CheckAnswer};
@@ -45,6 +44,7 @@ pub use enabled::{enabled, EnabledAnswer};
 pub use event_set::{lowest, size};
 pub use fresh::fresh;
 pub use guarded::{guarded_tick, GuardedAnswer};
+pub use happen::happen;
 pub use hold_up::{hold_up, HoldUpAnswer};
 pub use image::{read_marking, read_table, RECORD_BYTES};
 pub use judge::{judge_marking, judge_table};

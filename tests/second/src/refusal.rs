@@ -10,7 +10,6 @@ pub const LEFT_OR_RIGHT: u8 = 5;
 pub const BOUNDED_AND_TIME: u8 = 6;
 pub const RECORD: u8 = 7;
 pub const DOES_NOT_EXIST: u8 = 8;
-pub const WRONG_CLASS: u8 = 9;
 pub const NOT_ENABLED: u8 = 10;
 pub const DUE: u8 = 11;
 pub const CHECK_REJECTS: u8 = 12;

@@ -1,8 +1,7 @@
 //! Two offered remedies: which start of which list discharges.
 
 use crate::decoded::{Marking, Table};
-use crate::effect::effect;
-use crate::enabled::is_enabled;
+use crate::happen::execute_if_enabled;
 use crate::judge::understand;
 use crate::process::{Process, State};
 use crate::refusal::{DONE, NO_START_DISCHARGES, TOO_LONG_OR_SHORT};
@@ -26,13 +25,10 @@ fn shortest_discharging_start(process: &Process, state: &State, list: &[u8]) -> 
     let mut length = 0;
     while !due_events(&now).is_empty() {
         let event = usize::from(*list.get(length)?);
-        let possible = event < process.events
-            && process.causable.contains(&event)
-            && is_enabled(process, &now, event);
-        if !possible {
+        if !process.causable.contains(&event) {
             return None;
         }
-        now = effect(process, &now, event);
+        now = execute_if_enabled(process, &now, event).ok()?;
         length += 1;
     }
     Some(length)

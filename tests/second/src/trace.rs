@@ -1,8 +1,8 @@
 //! The trace runner.
 
-use crate::ask::{ask, Asked};
 use crate::decoded::{Marking, MarkingAnswer, Table};
 use crate::guarded::guarded;
+use crate::happen::execute_if_enabled;
 use crate::judge::understand;
 use crate::process::{Process, State};
 use crate::refusal::{CHECK_REJECTS, DONE, LENGTH, STEP, TOO_LONG_OR_SHORT};
@@ -10,8 +10,9 @@ use crate::time::tick_unless_due;
 
 pub const LONGEST_TRACE: usize = 4096;
 
-const REQUEST: u8 = 0;
-const REPORT: u8 = 1;
+/// Two kinds for the one operation, so that old traces run.
+const HAPPENS: u8 = 0;
+const HAPPENS_TOO: u8 = 1;
 const PLAIN_TICK: u8 = 2;
 const GUARDED_TICK: u8 = 3;
 
@@ -24,8 +25,7 @@ pub struct Step {
 fn take_step(process: &Process, state: &State, step: &Step) -> Result<State, u8> {
     let event = usize::from(step.event);
     match (step.kind, step.event) {
-        (REQUEST, _) => ask(process, state, event, Asked::Request),
-        (REPORT, _) => ask(process, state, event, Asked::Report),
+        (HAPPENS | HAPPENS_TOO, _) => execute_if_enabled(process, state, event),
         (PLAIN_TICK, 0) => tick_unless_due(state),
         (GUARDED_TICK, 0) => match guarded(process, state) {
             Ok((_, after)) => Ok(after),

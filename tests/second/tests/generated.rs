@@ -4,10 +4,11 @@ mod carriers;
 mod chain;
 mod counted;
 mod firm;
+mod happening;
 mod promises;
 mod returning;
 
-use promises::{accepts, promise};
+use promises::{accepts, member, promise};
 use second::case::{Answer, Case};
 use second::rng::Rng;
 use second::{generate, *};
@@ -43,7 +44,7 @@ fn all_come_up(sorts_of: fn(&Case, &Answer) -> Vec<&'static str>, sorts: &[&str]
 
 /// Every number that a call can give. Decoded values have no spare bits, so 2
 /// is for those that read table images, or class bytes and firm as numbers.
-const NUMBERS: [(&str, &[u8]); 28] = [
+const NUMBERS: [(&str, &[u8]); 27] = [
     ("read_table", &[0, 1, 2, 3, 4, 5, 6]),
     ("read_marking", &[0, 1, 3, 7]),
     ("write_marking", &[0, 3, 7, 14]),
@@ -54,8 +55,7 @@ const NUMBERS: [(&str, &[u8]); 28] = [
     ("lowest", &[0]),
     ("enabled", &[0, 1, 3, 4, 5, 6, 7, 8]),
     ("due", &[0, 1, 3, 4, 5, 6, 7]),
-    ("request", &[0, 1, 3, 4, 5, 6, 7, 8, 9, 10]),
-    ("report", &[0, 1, 3, 4, 5, 6, 7, 8, 9, 10]),
+    ("happen", &[0, 1, 3, 4, 5, 6, 7, 8, 10]),
     ("plain_tick", &[0, 1, 3, 4, 5, 6, 7, 11]),
     ("margin", &[0, 1, 3, 4, 5, 6, 7, 8]),
     ("hold_up", &[0, 1, 3, 4, 5, 6, 7, 8]),
@@ -75,7 +75,7 @@ const NUMBERS: [(&str, &[u8]); 28] = [
 ];
 
 /// What the trace runner can answer for a step.
-const STEP_NUMBERS: [u8; 7] = [0, 8, 9, 10, 11, 12, 15];
+const STEP_NUMBERS: [u8; 6] = [0, 8, 10, 11, 12, 15];
 
 type Counts<K> = BTreeMap<K, usize>;
 
@@ -117,6 +117,9 @@ fn every_call_number_and_reason_occurs_and_no_other() {
         }
     });
 
+    let mut given = numbers.keys().chain(steps.keys());
+    assert!(given.all(|(_, number)| *number != 9), "9 is given");
+
     let occurred: Vec<(&str, u8)> = numbers.keys().copied().collect();
     let mut expected: Vec<(&str, u8)> = NUMBERS
         .iter()
@@ -150,10 +153,6 @@ fn the_promises_hold() {
             panic!("{broken}\n{case:?}\n{answer:?}");
         }
     });
-}
-
-fn member(set: u64, event: usize) -> bool {
-    set & 2u64.pow(event as u32) != 0
 }
 
 /// The bias that makes the cases worth comparing.
@@ -344,10 +343,8 @@ fn bad_guarded_answers(case: &Case, good: &GuardedAnswer) -> Vec<(&'static str, 
 
         // The first event is settled, the rest is only claimed.
         let mut claims = *good;
-        let mut table = *pair.table;
-        table.controllable = u64::MAX;
         let first = usize::from(good.caused[0]);
-        claims.marking = request(&table, &handed_in, first).marking;
+        claims.marking = happen(&pair.table, &handed_in, first).marking;
         bad.push(("only claims the rest", claims));
     }
     if good.number == 0 && good.count < 64 {
@@ -573,26 +570,6 @@ fn tampered_answers_are_noticed() {
         }
     });
     assert_eq!(noticed.len(), NUMBERS.len(), "{noticed:?}");
-}
-
-/// And in particular: a report refused with 10 under an accepting check.
-#[test]
-fn a_refused_report_is_noticed() {
-    let mut noticed = 0;
-    for_each_case(|case, answer| {
-        let (Case::Report { pair, .. }, Answer::Marking(good)) = (case, answer) else {
-            return;
-        };
-        if good.number == 0 && accepts(&pair.table, &pair.marking) {
-            let bad = MarkingAnswer {
-                number: 10,
-                marking: *pair.marking,
-            };
-            assert!(promise(case, &Answer::Marking(Box::new(bad))).is_err());
-            noticed += 1;
-        }
-    });
-    assert!(noticed > 0);
 }
 
 /// And in particular: the right closure with a wrong size.

@@ -5,7 +5,7 @@ use crate::decoded::{Marking, Record, Relation, Table, MOST_EVENTS, MOST_RELATIO
 use crate::event_set::from_word;
 use crate::guarded::guarded_tick;
 use crate::rng::Rng;
-use crate::{closure, plain_tick, report, request};
+use crate::{closure, happen, plain_tick};
 
 pub(super) const CONDITION: u8 = 1;
 pub(super) const RESPONSE: u8 = 2;
@@ -339,15 +339,17 @@ fn add_chain(rng: &mut Rng, plan: &Plan, table: &mut Table, marking: &mut Markin
     }
 }
 
-/// A few steps on, so that ages and deadlines also come from running.
+/// A few steps on, so that ages and deadlines also come from running. Every
+/// other event is passed over, by its class, or a seed would give other cases.
 fn advanced(rng: &mut Rng, table: &Table, marking: &Marking) -> Marking {
+    let controllable = from_word(table.controllable, table.events);
     let mut now = *marking;
     for _ in 0..rng.between(1, 6) {
         let event = rng.below(table.events);
-        now = match rng.below(4) {
-            0 => request(table, &now, event).marking,
-            1 => report(table, &now, event).marking,
-            2 => plain_tick(table, &now).marking,
+        now = match (rng.below(4), controllable.contains(&event)) {
+            (0, true) | (1, false) => happen(table, &now, event).marking,
+            (0 | 1, _) => now,
+            (2, _) => plain_tick(table, &now).marking,
             _ => guarded_tick(table, &now).marking,
         };
     }

@@ -51,10 +51,9 @@ fn a_wrong_count_is_noticed() {
     let expected = [
         "fresh",
         "guarded_tick",
+        "happen",
         "plain_tick",
         "read_marking",
-        "report",
-        "request",
         "run",
         "run_bytes",
     ];
@@ -98,9 +97,7 @@ fn records_in(image: &[u8]) -> Vec<Record> {
 fn executed(case: &Case, answer: &Answer) -> Option<(Marking, Vec<usize>)> {
     let before = *case.pair()?.marking;
     match (case, answer) {
-        (Case::Request { event, .. } | Case::Report { event, .. }, Answer::Marking(done))
-            if done.number == 0 =>
-        {
+        (Case::Happen { event, .. }, Answer::Marking(done)) if done.number == 0 => {
             Some((before, vec![*event]))
         }
         (_, Answer::Guarded(done)) if done.number == 0 => {
@@ -163,7 +160,7 @@ fn counts_of_every_sort_come_up() {
         "at the hold",
         "any",
     ];
-    for call in ["request", "report", "guarded_tick"] {
+    for call in ["happen", "guarded_tick"] {
         for sort in counts {
             let times = seen.get(&(call, sort)).copied().unwrap_or(0);
             assert!(times >= 5, "{call} {sort}: {seen:?}");

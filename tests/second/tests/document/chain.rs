@@ -78,16 +78,16 @@ fn deeper_and_deeper(count: usize) -> Vec<Visit> {
 #[test]
 fn p_after_leak() {
     for_p(|p| {
-        let now = reported(p, &p_start(), LEAK);
+        let now = marking_after(p, &p_start(), LEAK);
         assert_eq!(listed(p, &now, FLUSH), [(1, 0), (4, 0)]);
         for event in [LEAK, ISOLATE, STANDBY, DRAIN] {
             assert_eq!(listed(p, &now, event), []);
         }
-        let isolated = request(p, &now, ISOLATE).marking;
+        let isolated = marking_after(p, &now, ISOLATE);
         assert_eq!(listed(p, &isolated, FLUSH), [(4, 0)]);
-        let drained = request(p, &now, DRAIN).marking;
+        let drained = marking_after(p, &now, DRAIN);
         assert_eq!(listed(p, &drained, FLUSH), [(1, 0)]);
-        let both = request(p, &isolated, DRAIN).marking;
+        let both = marking_after(p, &isolated, DRAIN);
         assert_eq!(listed(p, &both, FLUSH), []);
     });
 }
@@ -97,11 +97,11 @@ fn p_after_leak() {
 fn p_without_flush() {
     for_p(|p| {
         assert_eq!(listed(p, &p_start(), FLUSH), []);
-        let leaked = reported(p, &p_start(), LEAK);
-        let away = reported(p, &leaked, STANDBY);
+        let leaked = marking_after(p, &p_start(), LEAK);
+        let away = marking_after(p, &leaked, STANDBY);
         assert_eq!(hold_up(p, &away, FLUSH), HoldUpAnswer::Excluded);
         assert_eq!(listed(p, &away, FLUSH), []);
-        let back = reported(p, &away, LEAK);
+        let back = marking_after(p, &away, LEAK);
         assert_eq!(listed(p, &back, FLUSH), [(1, 0), (4, 0)]);
     });
 }
@@ -161,7 +161,7 @@ fn p_and_one_more() {
         ),
     ] {
         for_p_and(added, |table| {
-            let now = reported(table, &p_start(), LEAK);
+            let now = marking_after(table, &p_start(), LEAK);
             assert_eq!(listed(table, &now, FLUSH), of_flush, "{added:?}");
             assert_eq!(listed(table, &now, ISOLATE), of_isolate, "{added:?}");
             assert_eq!(listed(table, &now, DRAIN), of_drain, "{added:?}");
@@ -678,9 +678,7 @@ fn from_the_end_to_the_start() {
         let mut now = fresh_marking(6);
         for left in (0..6).rev() {
             assert_eq!(listed(table, &now, 0), deeper_and_deeper(left));
-            let answer = request(table, &now, left);
-            assert_eq!(answer.number, 0);
-            now = answer.marking;
+            now = marking_after(table, &now, left);
         }
     });
 }

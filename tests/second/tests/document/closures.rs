@@ -77,7 +77,7 @@ fn a_chain_is_followed_to_its_end() {
 #[test]
 fn p_holds_three_events_in_every_example_marking() {
     for_p(|p| {
-        let leaked = reported(p, &p_start(), LEAK);
+        let leaked = marking_after(p, &p_start(), LEAK);
         for now in [p_start(), leaked, p_flush_due(p)] {
             assert_eq!(closure(p, &now), holds(&[FLUSH, ISOLATE, DRAIN]));
         }

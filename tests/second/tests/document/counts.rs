@@ -39,18 +39,15 @@ fn a_fresh_marking_counts_nothing() {
 }
 
 #[test]
-fn a_request_and_a_report_add_one_up_to_the_hold() {
+fn what_happens_adds_one_up_to_the_hold() {
     let table = table(&[CONTROLLED, UNCONTROLLED], &[]);
     for (before, after) in BY_ONE {
-        let now = marking(&[counted(before), counted(before)]);
-        let requested = request(&table, &now, 0);
-        assert_eq!(requested.number, 0);
-        assert_eq!(requested.marking.records[0], happened_often(0, after));
-        assert_eq!(requested.marking.records[1], now.records[1]);
-        let reported = report(&table, &now, 1);
-        assert_eq!(reported.number, 0);
-        assert_eq!(reported.marking.records[0], now.records[0]);
-        assert_eq!(reported.marking.records[1], happened_often(0, after));
+        let now = marking(&[counted(before); 2]);
+        for (event, other) in [(0, 1), (1, 0)] {
+            let records = marking_after(&table, &now, event).records;
+            assert_eq!(records[event], happened_often(0, after));
+            assert_eq!(records[other], now.records[other]);
+        }
     }
 }
 
@@ -84,12 +81,12 @@ fn the_targets_of_an_effect_keep_their_counts() {
     let table = table(&[CONTROLLED; 4], &all);
     let others = [excluded(counted(4)), counted(5), counted(6)];
     let now = marking(&[counted(3), others[0], others[1], others[2]]);
-    let after = request(&table, &now, 0).marking;
+    let after = happen(&table, &now, 0).marking;
     assert_eq!(counts(&after), [4, 4, 5, 6]);
     // A response to itself keeps the count, too.
     let itself = response(0, 0, 5);
     let table = crate::shop::table(&[CONTROLLED], &[itself]);
-    let after = request(&table, &marking(&[counted(3)]), 0).marking;
+    let after = happen(&table, &marking(&[counted(3)]), 0).marking;
     assert_eq!(
         (after.records[0].count, after.records[0].pending),
         (4, true)
@@ -102,12 +99,7 @@ fn ticks_and_refusals_count_nothing() {
     let now = marking(&[counted(3), counted(HOLD)]);
     assert_eq!(counts(&plain_tick(&table, &now).marking), [3, HOLD]);
     assert_eq!(counts(&guarded_tick(&table, &now).marking), [3, HOLD]);
-    for refused in [
-        request(&table, &now, 0),
-        request(&table, &now, 1),
-        report(&table, &now, 0),
-        report(&table, &now, 2),
-    ] {
+    for refused in [happen(&table, &now, 0), happen(&table, &now, 2)] {
         assert_ne!(refused.number, 0);
         assert_eq!(refused.marking, now);
     }
@@ -129,7 +121,7 @@ fn tried_lists_count_nothing() {
 fn the_counts_of_p_over_a_trace() {
     for_p(|p| {
         // Leak, three quiet ticks, one that causes 2, 4 and 1; leak again, and
-        // flush by request after isolate and drain, once refused.
+        // flush after isolate and drain, once refused.
         let steps = [
             (1, LEAK),
             (3, 0),

@@ -33,13 +33,23 @@ fn p_is_accepted_with_closure_1_2_4() {
     });
 }
 
+/// A report of it was answered 9 when there were two calls.
 #[test]
-fn p_after_leak_a_request_of_flush_is_held_up_by_relation_1() {
+fn p_before_leak_flush_gives_10_to_the_call_and_to_either_kind() {
     for_p(|p| {
-        let after = reported(p, &p_start(), LEAK);
-        let answer = request(p, &after, FLUSH);
-        assert_eq!(answer.number, 10);
-        assert_eq!(answer.marking, after);
+        assert_eq!(happen(p, &p_start(), FLUSH).number, 10);
+        let mut answers = [77; 2];
+        let end = run_bytes(p, &p_start(), &[0, 1, 1, 1], &mut answers);
+        assert_eq!((end.marking, answers), (p_start(), [10, 10]));
+    });
+}
+
+#[test]
+fn p_after_leak_flush_gives_10_and_is_held_up_by_relation_1() {
+    for_p(|p| {
+        let after = marking_after(p, &p_start(), LEAK);
+        let answer = happen(p, &after, FLUSH);
+        assert_eq!((answer.number, answer.marking), (10, after));
         assert_eq!(hold_up(p, &after, FLUSH), HoldUpAnswer::Blocked(1));
         assert!(!enabled(p, &after, FLUSH).enabled);
     });
@@ -114,12 +124,12 @@ fn p_there_two_lists_of_only_4_give_13() {
 #[test]
 fn p_after_standby_the_excluded_flush_counts_down_and_stops_nothing() {
     for_p(|p| {
-        let now = reported(p, &p_start(), LEAK);
+        let now = marking_after(p, &p_start(), LEAK);
         let now = quiet_guarded_ticks(p, &now, 1);
-        let now = reported(p, &now, STANDBY);
+        let now = marking_after(p, &now, STANDBY);
         let now = quiet_guarded_ticks(p, &now, 5);
         assert_eq!(now.records[FLUSH], excluded(pending(0)));
-        let now = reported(p, &now, LEAK);
+        let now = marking_after(p, &now, LEAK);
         assert_eq!(now.records[FLUSH], pending(3));
     });
 }

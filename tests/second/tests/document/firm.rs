@@ -6,7 +6,7 @@ use second::*;
 
 /// Leak and two guarded ticks: flush has one minute left.
 fn p_flush_in_one(p: &Table) -> Marking {
-    let after = reported(p, &p_start(), LEAK);
+    let after = marking_after(p, &p_start(), LEAK);
     let now = quiet_guarded_ticks(p, &after, 2);
     assert_eq!(now.records[FLUSH], pending(1));
     now
@@ -15,7 +15,7 @@ fn p_flush_in_one(p: &Table) -> Marking {
 #[test]
 fn a_repeated_leak_buys_no_time() {
     for_firm_p(|p| {
-        let now = reported(p, &p_flush_in_one(p), LEAK);
+        let now = marking_after(p, &p_flush_in_one(p), LEAK);
         assert_eq!(now.records[FLUSH], pending(1));
         assert_eq!(now.records[DRAIN], pending_eventually());
         // One quiet tick more, and the next one causes what is due.
@@ -23,7 +23,7 @@ fn a_repeated_leak_buys_no_time() {
         assert_eq!(caused(&guarded_tick(p, &now)), [2, 4, 1]);
     });
     for_p(|p| {
-        let now = reported(p, &p_flush_in_one(p), LEAK);
+        let now = marking_after(p, &p_flush_in_one(p), LEAK);
         assert_eq!(now.records[FLUSH], pending(3));
         assert_eq!(now.records[DRAIN], pending_eventually());
         quiet_guarded_ticks(p, &now, 3);
@@ -36,7 +36,7 @@ fn an_alarm_in_each_minute() {
     let caused_after = |p: &Table| {
         let mut now = p_start();
         (0..20).find(|_| {
-            let answer = guarded_tick(p, &reported(p, &now, LEAK));
+            let answer = guarded_tick(p, &marking_after(p, &now, LEAK));
             assert_eq!(answer.number, 0);
             now = answer.marking;
             caused(&answer) == [2, 4, 1]
@@ -50,12 +50,12 @@ fn an_alarm_in_each_minute() {
 #[test]
 fn an_excluded_flush_comes_back_with_the_date_it_had() {
     let leak_again = |p: &Table| {
-        let now = reported(p, &p_start(), LEAK);
+        let now = marking_after(p, &p_start(), LEAK);
         let now = quiet_guarded_ticks(p, &now, 1);
-        let now = reported(p, &now, STANDBY);
+        let now = marking_after(p, &now, STANDBY);
         let now = quiet_guarded_ticks(p, &now, 5);
         assert_eq!(now.records[FLUSH], excluded(pending(0)));
-        reported(p, &now, LEAK)
+        marking_after(p, &now, LEAK)
     };
     for_firm_p(|p| {
         let now = leak_again(p);
@@ -67,26 +67,19 @@ fn an_excluded_flush_comes_back_with_the_date_it_had() {
     for_p(|p| assert_eq!(leak_again(p).records[FLUSH], pending(3)));
 }
 
-/// What the target of event 0 has afterwards, be event 0 requested or reported,
-/// be the table decoded or read: in a firm table, and in one that is not.
+/// What the target of event 0 has afterwards, be the table decoded or read: in a
+/// firm table, and in one that is not.
 fn met(target: Record, responses: &[Relation], in_firm: Record, in_other: Record) {
     let now = marking(&[included(), target]);
-    for class in [CONTROLLED, UNCONTROLLED] {
-        let asked = |expected: Record| {
-            move |table: &Table| {
-                let answer = match class.0 {
-                    true => request(table, &now, 0),
-                    false => report(table, &now, 0),
-                };
-                assert_eq!(answer.number, 0);
-                assert_eq!(answer.marking.records[0], happened(0));
-                assert_eq!(answer.marking.records[1], expected, "{target:?}");
-            }
-        };
-        let classes = [class, CONTROLLED];
-        firm_both_ways(&classes, responses, asked(in_firm));
-        both_ways(&classes, responses, asked(in_other));
-    }
+    let asked = |expected: Record| {
+        move |table: &Table| {
+            let records = marking_after(table, &now, 0).records;
+            assert_eq!(records[0], happened(0));
+            assert_eq!(records[1], expected, "{target:?}");
+        }
+    };
+    firm_both_ways(&[CONTROLLED; 2], responses, asked(in_firm));
+    both_ways(&[CONTROLLED; 2], responses, asked(in_other));
 }
 
 /// The same of an excluded target: inclusion plays no part.
@@ -230,7 +223,7 @@ fn a_response_to_itself_gives_the_new_deadline() {
             pending_eventually(),
         ] {
             let asked = |table: &Table| {
-                let answer = request(table, &marking(&[had]), 0);
+                let answer = happen(table, &marking(&[had]), 0);
                 let expected = Record {
                     happened: true,
                     count: 1,
@@ -245,7 +238,7 @@ fn a_response_to_itself_gives_the_new_deadline() {
 }
 
 #[test]
-fn a_caused_event_responds_as_a_requested_one() {
+fn a_caused_event_responds_as_any_that_happens() {
     // Event 0 is due and responds to itself, to 1 with less time left, and to
     // 2 with more.
     let responses = [response(0, 0, 5), response(0, 1, 5), response(0, 2, 5)];

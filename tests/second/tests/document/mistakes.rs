@@ -52,7 +52,7 @@ fn an_excluded_event_counts_down_and_at_0_does_not_stop_time() {
 #[test]
 fn a_response_to_itself_is_kept() {
     let table = table(&[CONTROLLED], &[response(0, 0, 4)]);
-    let after = request(&table, &fresh_marking(1), 0).marking;
+    let after = happen(&table, &fresh_marking(1), 0).marking;
     let expected = Record {
         happened: true,
         count: 1,
@@ -60,7 +60,7 @@ fn a_response_to_itself_is_kept() {
     };
     assert_eq!(after.records[0], expected);
     // Also when the old duty is replaced by the new one.
-    let after = request(&table, &marking(&[pending(0)]), 0).marking;
+    let after = happen(&table, &marking(&[pending(0)]), 0).marking;
     assert_eq!(after.records[0], expected);
 }
 
@@ -70,18 +70,16 @@ fn a_new_deadline_replaces_a_smaller_one() {
     let classes = [CONTROLLED; 2];
     let now = marking(&[included(), pending(2)]);
     let later = table(&classes, &[response(0, 1, 9)]);
-    assert_eq!(request(&later, &now, 0).marking.records[1], pending(9));
+    assert_eq!(happen(&later, &now, 0).marking.records[1], pending(9));
     let open = table(&classes, &[eventually(0, 1)]);
-    assert_eq!(
-        request(&open, &now, 0).marking.records[1],
-        pending_eventually()
-    );
+    let after = marking_after(&open, &now, 0);
+    assert_eq!(after.records[1], pending_eventually());
     // Among the new ones the smallest counts, "eventually" being largest.
     let several = table(
         &classes,
         &[eventually(0, 1), response(0, 1, 9), response(0, 1, 7)],
     );
-    assert_eq!(request(&several, &now, 0).marking.records[1], pending(7));
+    assert_eq!(happen(&several, &now, 0).marking.records[1], pending(7));
 }
 
 #[test]

@@ -199,17 +199,16 @@ fn a_trace_too_long_before_its_steps() {
 }
 
 #[test]
-fn per_step_15_8_9_10_and_per_call_8_9_10() {
+fn per_step_15_8_10_and_per_call_8_10() {
     let shut_out = marking(&[excluded(included()), pending(0)]);
     let table = table(&[CONTROLLED, UNCONTROLLED], &[condition(1, 1, 0)]);
     let steps = [
         (7, 200, 15),
         (0, 200, 8),
         (1, 200, 8),
-        // Not enabled, but first of the wrong class.
-        (1, 0, 9),
-        (0, 1, 9),
         (0, 0, 10),
+        (1, 0, 10),
+        (0, 1, 10),
         (1, 1, 10),
         // A tick that is no step, while event 1 is due and the check rejects.
         (2, 1, 15),
@@ -227,9 +226,9 @@ fn per_step_15_8_9_10_and_per_call_8_9_10() {
     let expected: Vec<u8> = steps.iter().map(|&(_, _, number)| number).collect();
     assert_eq!(answers, expected);
 
-    assert_eq!(request(&table, &shut_out, 200).number, 8);
-    assert_eq!(report(&table, &shut_out, 0).number, 9);
-    assert_eq!(report(&table, &shut_out, 1).number, 10);
+    assert_eq!(happen(&table, &shut_out, 200).number, 8);
+    assert_eq!(happen(&table, &shut_out, 0).number, 10);
+    assert_eq!(happen(&table, &shut_out, 1).number, 10);
 }
 
 #[test]
@@ -272,6 +271,6 @@ fn the_station_refuses_in_the_order_of_its_input() {
     // Refused steps are answers, not refusals of the whole.
     assert_eq!(
         station(&input(&[&image, &[0; 12], &[9, 9, 0, 0, 1, 0, 0, 1]])),
-        [15, 10, 9, 8, 0, 0, 0, 0, 0, 0, 0, 0, 0, 0, 0, 0]
+        [15, 10, 10, 8, 0, 0, 0, 0, 0, 0, 0, 0, 0, 0, 0, 0]
     );
 }

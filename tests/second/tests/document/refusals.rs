@@ -23,8 +23,7 @@ fn every_call_refuses(table: &Table, now: &Marking, number: u8) {
         }
     );
     assert_eq!(due(table, now), SetAnswer { number, set: 0 });
-    assert_eq!(request(table, now, 0), handed_back);
-    assert_eq!(report(table, now, 0), handed_back);
+    assert_eq!(happen(table, now, 0), handed_back);
     assert_eq!(plain_tick(table, now), handed_back);
     assert_eq!(margin(table, now, 0), MarginAnswer::Refused(number));
     assert_eq!(hold_up(table, now, 0), HoldUpAnswer::Refused(number));
@@ -320,8 +319,7 @@ fn number_8_an_event_or_relation_does_not_exist() {
             number: 8,
             marking: now,
         };
-        assert_eq!(request(&table, &now, missing), handed_back);
-        assert_eq!(report(&table, &now, missing), handed_back);
+        assert_eq!(happen(&table, &now, missing), handed_back);
         assert_eq!(hold_up(&table, &now, missing), HoldUpAnswer::Refused(8));
         assert_eq!(margin(&table, &now, missing), MarginAnswer::Refused(8));
         assert_eq!(chain(&table, &now, missing, &mut [0; 256]).number, 8);
@@ -329,18 +327,24 @@ fn number_8_an_event_or_relation_does_not_exist() {
     assert_eq!(margin(&table, &now, 0), MarginAnswer::NotACondition);
 }
 
+/// It was for an event of the other class. The class decides nothing any more, be
+/// it asked of the call or of a step of either kind.
 #[test]
-fn number_9_the_event_is_of_the_other_class() {
+fn number_9_is_never_given() {
     let table = table(&[CONTROLLED, UNCONTROLLED], &[]);
-    let now = fresh_marking(2);
-    assert_eq!(request(&table, &now, 0).number, 0);
-    assert_eq!(report(&table, &now, 1).number, 0);
-    let handed_back = MarkingAnswer {
-        number: 9,
-        marking: now,
-    };
-    assert_eq!(report(&table, &now, 0), handed_back);
-    assert_eq!(request(&table, &now, 1), handed_back);
+    let away = excluded(included());
+    for (event, kind) in [(0, 0), (0, 1), (1, 0), (1, 1)] {
+        for (before, number, after) in [(included(), 0, happened(0)), (away, 10, away)] {
+            let now = marking(&[before; 2]);
+            let mut expected = now;
+            expected.records[usize::from(event)] = after;
+            let answer = happen(&table, &now, event.into());
+            assert_eq!((answer.number, answer.marking), (number, expected));
+            let mut answers = [77];
+            let end = run(&table, &now, &[Step { kind, event }], &mut answers);
+            assert_eq!((answers, end.marking), ([number], expected));
+        }
+    }
 }
 
 #[test]
@@ -350,13 +354,13 @@ fn number_10_the_event_is_not_enabled() {
         &[milestone(0, 1), condition(1, 0, 2)],
     );
     let now = marking(&[happened(1), pending_eventually()]);
-    assert_eq!(request(&table, &now, 0).number, 10);
-    assert_eq!(report(&table, &now, 1).number, 10);
-    assert_eq!(report(&table, &now, 1).marking, now);
+    assert_eq!(happen(&table, &now, 0).number, 10);
+    assert_eq!(happen(&table, &now, 1).number, 10);
+    assert_eq!(happen(&table, &now, 1).marking, now);
     let later = plain_tick(&table, &now).marking;
-    assert_eq!(report(&table, &later, 1).number, 0);
+    assert_eq!(happen(&table, &later, 1).number, 0);
     let shut_out = marking(&[excluded(included()), included()]);
-    assert_eq!(request(&table, &shut_out, 0).number, 10);
+    assert_eq!(happen(&table, &shut_out, 0).number, 10);
     assert_eq!(hold_up(&table, &shut_out, 0), HoldUpAnswer::Excluded);
 }
 
@@ -376,7 +380,7 @@ fn an_excluded_right_event_does_not_block() {
         ([excluded(included()), included()], 0),
     ] {
         let now = marking(&[included(), right[0], right[1]]);
-        assert_eq!(request(&table, &now, 0).number, number, "{right:?}");
+        assert_eq!(happen(&table, &now, 0).number, number, "{right:?}");
     }
 }
 
@@ -535,7 +539,7 @@ fn unused_places_are_not_looked_at_and_are_kept() {
     assert_eq!(closure(&table, &now).size, 1);
     assert_eq!(due(&table, &now).set, 0);
     let answers = [
-        request(&table, &now, 0).marking,
+        happen(&table, &now, 0).marking,
         plain_tick(&table, &now).marking,
         guarded_tick(&table, &now).marking,
         run(&table, &now, &[Step { kind: 2, event: 0 }], &mut [0]).marking,
@@ -562,7 +566,7 @@ fn inclusion_wins_over_exclusion() {
     ] {
         let table = table(&[CONTROLLED; 2], &relations);
         for before in [included(), excluded(included())] {
-            let after = request(&table, &marking(&[included(), before]), 0);
+            let after = happen(&table, &marking(&[included(), before]), 0);
             assert!(after.marking.records[1].included);
         }
     }

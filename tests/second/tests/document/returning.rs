@@ -356,8 +356,8 @@ fn unused_places_name_nothing() {
     assert_eq!(margin(&strange, &now, 2), MarginAnswer::Refused(8));
 }
 
-/// What is named holds nothing up: not a request, not a report, not the event
-/// that a guarded tick causes or a list tries.
+/// What is named holds nothing up: not the event that happens, not the one that a
+/// guarded tick causes or a list tries.
 #[test]
 fn what_is_named_changes_nothing_else() {
     let relations = [milestone(0, 1), condition(0, 2, 9)];
@@ -365,8 +365,7 @@ fn what_is_named_changes_nothing_else() {
     both_ways(&events(3), &relations, |table| {
         assert_eq!(hold_up(table, &now, 0), EnabledUnless(0));
         assert!(enabled(table, &now, 0).enabled);
-        let done = request(table, &now, 0);
-        assert_eq!((done.number, done.marking.records[0]), (0, happened(0)));
+        assert_eq!(marking_after(table, &now, 0).records[0], happened(0));
         assert_eq!(remedies(table, &now, &[0], &[]).length, 1);
         assert_eq!(due(table, &now).set, set(&[0]));
         // The check goes by inhibitors, excluded or not.
@@ -380,11 +379,6 @@ fn what_is_named_changes_nothing_else() {
         let answer = guarded_tick(table, &in_place);
         assert_eq!((answer.number, caused(&answer)), (0, vec![0]));
     });
-    let reported = [UNCONTROLLED, CONTROLLED, CONTROLLED];
-    both_ways(&reported, &relations, |table| {
-        assert_eq!(hold_up(table, &now, 0), EnabledUnless(0));
-        assert_eq!(report(table, &now, 0).number, 0);
-    });
 }
 
 /// P, with isolate away: after leak the drain blocks, and then nothing does, but
@@ -396,9 +390,9 @@ fn p_with_isolate_away() {
         start.records[ISOLATE].included = false;
         assert_eq!(hold_up(p, &start, FLUSH), Excluded);
         assert_eq!(margin(p, &start, 1), Ignored(Rest::Never));
-        let now = reported(p, &start, LEAK);
+        let now = marking_after(p, &start, LEAK);
         assert_eq!(hold_up(p, &now, FLUSH), Blocked(4));
-        let now = request(p, &now, DRAIN).marking;
+        let now = marking_after(p, &now, DRAIN);
         assert_eq!(hold_up(p, &now, FLUSH), EnabledUnless(1));
         assert_eq!(margin(p, &now, 1), Ignored(Rest::Never));
         // Were it back, it would block; had it happened, it would not.
@@ -409,7 +403,7 @@ fn p_with_isolate_away() {
         done.records[ISOLATE] = excluded(happened(2));
         assert_eq!(hold_up(p, &done, FLUSH), Enabled);
         assert_eq!(margin(p, &done, 1), Ignored(Rest::By(2)));
-        assert_eq!(request(p, &now, FLUSH).number, 0);
+        assert_eq!(happen(p, &now, FLUSH).number, 0);
     });
 }
 
@@ -438,12 +432,12 @@ fn p_and_isolate_waits_for_flush() {
         let now = p_start();
         assert_eq!(hold_up(table, &now, ISOLATE), EnabledUnless(6));
         assert_eq!(margin(table, &now, 6), Ignored(Rest::Never));
-        let leaked = reported(table, &now, LEAK);
+        let leaked = marking_after(table, &now, LEAK);
         assert_eq!(hold_up(table, &leaked, ISOLATE), Blocked(6));
         assert_eq!(margin(table, &leaked, 6), Never);
-        let away = reported(table, &leaked, STANDBY);
+        let away = marking_after(table, &leaked, STANDBY);
         assert_eq!(hold_up(table, &away, ISOLATE), EnabledUnless(6));
-        assert_eq!(request(table, &away, ISOLATE).number, 0);
+        assert_eq!(happen(table, &away, ISOLATE).number, 0);
     });
 }
 
@@ -452,12 +446,12 @@ fn p_and_isolate_waits_for_flush() {
 fn p_and_isolate_has_flush_as_milestone() {
     for_p_and(milestone(ISOLATE, FLUSH), |table| {
         assert_eq!(hold_up(table, &p_start(), ISOLATE), Enabled);
-        let leaked = reported(table, &p_start(), LEAK);
+        let leaked = marking_after(table, &p_start(), LEAK);
         assert_eq!(hold_up(table, &leaked, ISOLATE), Blocked(6));
-        let away = reported(table, &leaked, STANDBY);
+        let away = marking_after(table, &leaked, STANDBY);
         assert_eq!(away.records[FLUSH], excluded(pending(3)));
         assert_eq!(hold_up(table, &away, ISOLATE), EnabledUnless(6));
-        let back = reported(table, &away, LEAK);
+        let back = marking_after(table, &away, LEAK);
         assert_eq!(hold_up(table, &back, ISOLATE), Blocked(6));
     });
 }

@@ -301,8 +301,9 @@ pub fn p_start() -> Marking {
     marking
 }
 
-pub fn reported(table: &Table, marking: &Marking, event: usize) -> Marking {
-    let answer = report(table, marking, event);
+/// The marking once this event has happened, which it may.
+pub fn marking_after(table: &Table, marking: &Marking, event: usize) -> Marking {
+    let answer = happen(table, marking, event);
     assert_eq!(answer.number, 0);
     answer.marking
 }
@@ -321,7 +322,7 @@ pub fn quiet_guarded_ticks(table: &Table, marking: &Marking, ticks: usize) -> Ma
 
 /// Leak, three guarded ticks: flush is due.
 pub fn p_flush_due(table: &Table) -> Marking {
-    let after = reported(table, &p_start(), LEAK);
+    let after = marking_after(table, &p_start(), LEAK);
     quiet_guarded_ticks(table, &after, 3)
 }
 

@@ -1,5 +1,5 @@
 //! Engines that have the rule about deadlines that meet wrong, in what they answer
-//! to a request or report.
+//! when something happens.
 
 use second::case::{Answer, Case};
 use second::*;
@@ -82,11 +82,9 @@ pub fn had_and_new(
     (!responses.is_empty()).then_some((before.records[target], new))
 }
 
-/// The answer of an engine with this rule to a request or report that is done.
+/// The answer of an engine with this rule to something that happens.
 pub fn answer_of(keeps: Rule, case: &Case, good: &Answer) -> Option<Answer> {
-    let (Case::Request { pair, event } | Case::Report { pair, event }, Answer::Marking(done)) =
-        (case, good)
-    else {
+    let (Case::Happen { pair, event }, Answer::Marking(done)) = (case, good) else {
         return None;
     };
     if done.number != 0 {

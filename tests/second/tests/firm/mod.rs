@@ -44,7 +44,7 @@ fn half_of_the_tables_are_firm() {
         }
     });
     println!("{firm:?} of {tables:?}");
-    assert_eq!(tables.len(), 21);
+    assert_eq!(tables.len(), 20);
     for (call, &times) in &tables {
         let firm = firm.get(call).copied().unwrap_or(0);
         assert!(firm * 5 > times * 2, "{call}: {firm} of {times}");
@@ -120,19 +120,15 @@ fn plain_numbers_of_every_sort_for_firm() {
 /// The markings before the executions of a call, each with its event.
 fn executions(case: &Case, answer: &Answer) -> Vec<(Marking, usize)> {
     match (case, answer) {
-        (Case::Request { pair, event } | Case::Report { pair, event }, Answer::Marking(done))
-            if done.number == 0 =>
-        {
+        (Case::Happen { pair, event }, Answer::Marking(done)) if done.number == 0 => {
             vec![(*pair.marking, *event)]
         }
         (Case::GuardedTick { pair }, Answer::Guarded(done)) if done.number == 0 => {
-            let mut table = *pair.table;
-            table.controllable = u64::MAX;
             let mut now = *pair.marking;
             let mut executions = Vec::new();
             for &event in &done.caused[..usize::from(done.count)] {
                 executions.push((now, event.into()));
-                now = request(&table, &now, event.into()).marking;
+                now = happen(&pair.table, &now, event.into()).marking;
             }
             executions
         }
@@ -184,8 +180,7 @@ fn deadlines_meet_in_every_way() {
 fn with_firm(case: &Case, firm: bool) -> Option<Case> {
     let mut case = case.clone();
     match &mut case {
-        Case::Request { pair, .. }
-        | Case::Report { pair, .. }
+        Case::Happen { pair, .. }
         | Case::GuardedTick { pair }
         | Case::Remedies { pair, .. }
         | Case::Run { pair, .. }
@@ -201,7 +196,7 @@ fn with_firm(case: &Case, firm: bool) -> Option<Case> {
 
 /// In every call that executes events.
 fn noticed_everywhere(firm: bool) {
-    all_noticed(7, |case, answer| {
+    all_noticed(6, |case, answer| {
         // Only so much of a trace is replayed.
         if matches!(answer, Answer::Run { answers, .. } if answers.len() > 64) {
             return Vec::new();
@@ -257,7 +252,7 @@ fn each_breaks_the_promise_that_it_is_about() {
     assert_eq!(broken.len(), 3, "{broken:?}");
 }
 
-/// Within 2,000 cases, whatever the seed, and by requests and reports alone.
+/// Within 2,000 cases, whatever the seed, and by what happens alone.
 #[test]
 fn a_wrong_rule_is_found_fast() {
     for seed in 0..5 {

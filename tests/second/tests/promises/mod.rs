@@ -27,7 +27,7 @@ fn holds(fact: bool, broken: &str) -> Promise {
     }
 }
 
-fn member(set: u64, event: usize) -> bool {
+pub fn member(set: u64, event: usize) -> bool {
     event < 64 && set & 2u64.pow(event as u32) != 0
 }
 
@@ -343,40 +343,33 @@ fn due_promise(pair: &Pair, answer: &SetAnswer) -> Promise {
     Ok(())
 }
 
-/// Request or report, by the class that fits.
-fn ask_promise(pair: &Pair, event: usize, fits: bool, answer: &MarkingAnswer) -> Promise {
-    let Pair { table, marking } = pair;
-    if answer.number != 0 {
-        holds(
-            answer.marking == **marking,
-            "a refusal does not hand the marking back",
-        )?;
-    }
-    let enabled = enabled(table, marking, event);
-    match answer.number {
-        0 => {
-            holds(fits && enabled.enabled, "executed without leave")?;
-            firm::execution_promise(table, marking, event, &answer.marking)?;
-            holds(
-                answer.marking == effect(table, marking, event),
-                "the effect is wrong",
-            )?;
-            made(table, marking, &answer.marking)
-        }
-        9 => holds(enabled.number == 0 && !fits, "9 without cause"),
-        10 => holds(
-            enabled.number == 0 && fits && !enabled.enabled,
-            "10 without cause",
-        ),
-        number => holds(enabled.number == number, "refused without cause"),
-    }
+const NINE: &str = "9 is given";
+const STOPPED: &str = "an uncontrollable event is answered 10 under an accepting check";
+
+/// What a request of a controllable event, or else a report of any other, was
+/// granted when they were two. None: it was refused.
+fn formerly(pair: &Pair, event: usize, controllable: bool) -> Option<Marking> {
+    let fits = member(pair.table.controllable, event) == controllable;
+    execute(&pair.table, &pair.marking, event).filter(|_| fits)
 }
 
-fn report_promise(pair: &Pair, answer: &MarkingAnswer) -> Promise {
-    holds(
-        !(answer.number == 10 && accepts(&pair.table, &pair.marking)),
-        "a report is answered 10 under an accepting check",
-    )
+/// Granted as the one of the two was that fitted the class, or refused.
+fn happen_promise(pair: &Pair, event: usize, answer: &MarkingAnswer) -> Promise {
+    let Pair { table, marking } = pair;
+    if let Some(granted) = formerly(pair, event, true).or(formerly(pair, event, false)) {
+        holds(answer.number == 0, "what was granted is refused")?;
+        firm::execution_promise(table, marking, event, &answer.marking)?;
+        holds(answer.marking == granted, "the effect is wrong")?;
+        return made(table, marking, &answer.marking);
+    }
+    let expected = match enabled(table, marking, event).number {
+        0 => 10,
+        number => number,
+    };
+    holds(answer.number == expected, "not refused with its number")?;
+    holds(answer.marking == **marking, "a refusal did something")?;
+    let stopped = expected == 10 && !member(table.controllable, event);
+    holds(!(stopped && accepts(table, marking)), STOPPED)
 }
 
 fn plain_tick_promise(pair: &Pair, answer: &MarkingAnswer) -> Promise {
@@ -632,6 +625,7 @@ fn run_promise(
         after.len() == before.len() && after[steps.len()..] == before[steps.len()..],
         "later answer bytes are changed",
     )?;
+    holds(!after[..steps.len()].contains(&9), NINE)?;
     made(table, marking, &end.marking)?;
 
     let moments = replay(table, marking, steps);
@@ -652,10 +646,8 @@ fn run_promise(
 
     if accepts(table, marking) {
         for (step, &answer) in steps.iter().zip(after) {
-            holds(
-                !(step.kind == 1 && answer == 10),
-                "a report is answered 10 under an accepting check",
-            )?;
+            let controllable = member(table.controllable, step.event.into());
+            holds(answer != 10 || controllable, STOPPED)?;
             holds(
                 answer != 12,
                 "the check came to reject in the course of a trace",
@@ -663,7 +655,14 @@ fn run_promise(
         }
         holds(accepts(table, &end.marking), "the check no longer accepts")?;
     }
-    Ok(())
+
+    let mut turned = steps.to_vec();
+    for step in turned.iter_mut().filter(|step| step.kind < 2) {
+        step.kind = 1 - step.kind;
+    }
+    let mut answers = before.to_vec();
+    let turned = run(table, marking, &turned, &mut answers);
+    holds(turned == *end && answers == after, "kinds 0 and 1 differ")
 }
 
 fn pairs_of(bytes: &[u8]) -> Vec<Step> {
@@ -737,6 +736,7 @@ fn station_promise(input: &[u8], output: &[u8]) -> Promise {
         "the output has the wrong length",
     )?;
     let (answers, image) = output.split_at(steps.len() / 2);
+    holds(!answers.contains(&9), NINE)?;
     let end = read_marking(events, image);
     holds(end.number == 0, "the end marking does not read back")?;
     let mut expected = vec![0; answers.len()];
@@ -749,6 +749,7 @@ fn station_promise(input: &[u8], output: &[u8]) -> Promise {
 
 /// Whether the answer keeps what the rules' paper promises for the case.
 pub fn promise(case: &Case, answer: &Answer) -> Promise {
+    holds(answer.number() != 9, NINE)?;
     if let Some(pair) = case.pair() {
         let number = judged(pair);
         if number != 0 {
@@ -787,14 +788,8 @@ pub fn promise(case: &Case, answer: &Answer) -> Promise {
             enabled_promise(pair, *event, answer)
         }
         (Case::Due { pair }, Answer::Set(answer)) => due_promise(pair, answer),
-        (Case::Request { pair, event }, Answer::Marking(answer)) => {
-            let fits = member(pair.table.controllable, *event);
-            ask_promise(pair, *event, fits, answer)
-        }
-        (Case::Report { pair, event }, Answer::Marking(answer)) => {
-            let fits = !member(pair.table.controllable, *event);
-            ask_promise(pair, *event, fits, answer)?;
-            report_promise(pair, answer)
+        (Case::Happen { pair, event }, Answer::Marking(answer)) => {
+            happen_promise(pair, *event, answer)
         }
         (Case::PlainTick { pair }, Answer::Marking(answer)) => plain_tick_promise(pair, answer),
         (Case::Margin { pair, relation }, Answer::Margin(answer)) => {

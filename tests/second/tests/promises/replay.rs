@@ -12,13 +12,11 @@ pub struct Moment {
     pub marking: Marking,
 }
 
-/// A request or report that is done executes its event, a guarded tick what it
-/// says it caused.
+/// What happens executes its event, a guarded tick what it says it caused.
 fn step_by_call(table: &Table, now: &Marking, step: &Step) -> Moment {
     let event = usize::from(step.event);
     let (answer, mut executed) = match (step.kind, step.event) {
-        (0, _) => (request(table, now, event), vec![event]),
-        (1, _) => (report(table, now, event), vec![event]),
+        (0 | 1, _) => (happen(table, now, event), vec![event]),
         (2, 0) => (plain_tick(table, now), Vec::new()),
         (3, 0) => {
             let GuardedAnswer {
