@@ -14,7 +14,7 @@ static const char *const names[EVENTS] = {"leak", "flush", "isolate", "standby",
 
 enum { UNBOUNDED = 0, BOUNDED = 1, REMEDY = DUTY_CONTROLLABLE | DUTY_CAUSABLE };
 
-/* flush, isolate and drain are controllable and causable; a leak and a standby are reported */
+/* flush, isolate and drain are controllable and causable; a leak and a standby are neither */
 static const uint8_t classes[EVENTS] = {[FLUSH] = REMEDY, [ISOLATE] = REMEDY, [DRAIN] = REMEDY};
 
 /* for each relation: kind, left, right, bounded, time */
@@ -140,18 +140,20 @@ static void start(const char *what, uint32_t firm, size_t count)
     exclude(FLUSH);
 }
 
-static void report_leak(void) { say("report leak", duty_report(table, length_of_table, marking, sizeof marking, LEAK)); }
-
-static void request(const char *what, size_t event) { say(what, duty_request(table, length_of_table, marking, sizeof marking, event)); }
+static void happen(size_t event)
+{
+    printf("%s ", names[event]);
+    say("happens", duty_happen(table, length_of_table, marking, sizeof marking, event));
+}
 
 /* A leak, two minutes, and the leak again: when is the flush due? */
 static void repeat_leak(void)
 {
-    report_leak();
+    happen(LEAK);
     guarded_tick();
     guarded_tick();
     say_deadline(FLUSH);
-    report_leak();
+    happen(LEAK);
     say_deadline(FLUSH);
 }
 
@@ -168,9 +170,9 @@ static void valve_away(void)
 /* Before it was ever used, and a minute after. */
 static void valve_away_twice(void)
 {
-    request("request drain", DRAIN);
+    happen(DRAIN);
     valve_away();
-    request("request isolate", ISOLATE);
+    happen(ISOLATE);
     guarded_tick();
     valve_away();
 }
@@ -178,13 +180,13 @@ static void valve_away_twice(void)
 /* The flush waits for the valve and for the drain, and the valve waits for the drain too: which is to be done first? */
 static void whole_chain(void)
 {
-    report_leak();
+    happen(LEAK);
     say_hold_up(FLUSH);
     say_chain(FLUSH);
-    request("request isolate", ISOLATE);
-    request("request drain", DRAIN);
+    happen(ISOLATE);
+    happen(DRAIN);
     say_chain(FLUSH);
-    request("request isolate", ISOLATE);
+    happen(ISOLATE);
     say_chain(FLUSH);
     say_hold_up(FLUSH);
 }
@@ -194,8 +196,8 @@ int main(void)
     start("table", DUTY_NOT_FIRM, SHOPS);
     say("judged", duty_judge(table, length_of_table, marking, sizeof marking));
 
-    report_leak();
-    request("request flush", FLUSH);
+    happen(LEAK);
+    happen(FLUSH);
     say_hold_up(FLUSH);
     say_chain(FLUSH);
 

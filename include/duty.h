@@ -43,19 +43,19 @@
  * the table's numbers and then their own, duty_write_table, duty_fresh and duty_carry their own alone.
  *
  * A refusal writes nothing at all; a call that is done writes what is said and no byte past it. The one exception: 12 has a reason and a
- * place, and writes those two. An acting function (request, report, ticks, run) that is done puts the new marking's image where the old one
- * was handed in.
+ * place, and writes those two. An acting function (happen, ticks, run) that is done puts the new marking's image where the old one was handed
+ * in.
  *
  * Stack. Bytes that a call takes at most on x86-64, its callers and what they lend not counted, nor memcpy and memset of the C library. They
  * are measured, of the compiled library, and not proved: docs/BENCH.md, 'Stack', says how. None takes more than 24 KiB. There is no heap, and
  * one call recurses: duty_chain, one visit within another for each event at most, 64, and one more that finds its event open. All of them are
  * counted.
- *     duty_run 24,064             duty_guarded_tick 23,056  duty_check 19,088       duty_request 18,048
- *     duty_report 18,048          duty_plain_tick 18,048    duty_margin 17,968      duty_chain 16,816
- *     duty_closure 16,432         duty_enabled 15,888       duty_hold_up 15,888     duty_due 14,608
- *     duty_remedies 14,360        duty_record 12,752        duty_judge 11,680       duty_relation 8,528
- *     duty_class 6,416            duty_firm 6,400           duty_write_table 4,464  duty_fresh 4,208
- *     duty_carry 3,184            duty_size, duty_lowest 8
+ *     duty_run 24,032             duty_guarded_tick 23,056  duty_happen 20,000      duty_plain_tick 20,000
+ *     duty_check 19,088           duty_margin 17,968        duty_chain 16,816       duty_closure 16,432
+ *     duty_enabled 15,888         duty_hold_up 15,888       duty_due 14,608         duty_remedies 14,360
+ *     duty_record 12,752          duty_judge 11,680         duty_relation 8,528     duty_class 6,416
+ *     duty_firm 6,400             duty_write_table 4,464    duty_fresh 4,208        duty_carry 3,184
+ *     duty_size, duty_lowest 8
  */
 #ifndef DUTY_H
 #define DUTY_H
@@ -68,8 +68,9 @@ extern "C" {
 #endif
 
 /* It grows by one wherever a function, a number or an image is changed, so that code written for another one can refuse to compile.
-   6, since 5: duty_chain is new. Nothing else is another, so code that is written for 5 stays as it is. */
-#define DUTY_VERSION 6
+   7, since 6: duty_happen is in place of duty_request and duty_report, the steps of kind 0 and 1 both mean it, and 9 is given no more. Where 6
+   answered no step of a trace with 9, it runs as it did; a step that 6 answered so may now be done. */
+#define DUTY_VERSION 7
 
 /* A compiler that knows these words warns where a null pointer, or an overlap with what is written, can be seen. */
 #if defined(__GNUC__)
@@ -80,7 +81,7 @@ extern "C" {
 #define DUTY_ALONE
 #endif
 
-/* The numbers given for refusal. */
+/* The numbers given for refusal. 9 was given by versions up to 6, for an event of another class than the call; nothing gives it any more. */
 enum duty_number {
     DUTY_DONE = 0,
     DUTY_LENGTH = 1,        /* an image's length is wrong, or that of a table's numbers, or the steps end in an odd byte */
@@ -91,7 +92,6 @@ enum duty_number {
     DUTY_TIME = 6,          /* bounded and time do not fit the kind */
     DUTY_RECORD = 7,        /* a marking record breaks its rules */
     DUTY_NONE_SUCH = 8,     /* no such event or relation */
-    DUTY_CLASS = 9,         /* request of an uncontrollable, or report of a controllable event */
     DUTY_NOT_ENABLED = 10,  /* the event is not enabled */
     DUTY_IS_DUE = 11,       /* plain tick while an event is due */
     DUTY_REJECTED = 12,     /* the static check rejects; with reason and place */
@@ -111,7 +111,7 @@ enum duty_kind {
 
 /* The bits of a class byte: both, one or neither. */
 enum duty_class_bit {
-    DUTY_CONTROLLABLE = 0x80,   /* it is requested; without this it is reported */
+    DUTY_CONTROLLABLE = 0x80,   /* it may be excluded, and may wait: any other event that can be or does is reason 1 of the check */
     DUTY_CAUSABLE = 0x40        /* a guarded tick or an offered remedy may execute it */
 };
 
@@ -121,10 +121,10 @@ enum { DUTY_NOT_FIRM = 0, DUTY_FIRM = 1 };
 /* A relation in plain numbers: which stands at which place, and how many there are. Bounded is 0 or 1. */
 enum duty_place { DUTY_AT_KIND = 0, DUTY_AT_LEFT = 1, DUTY_AT_RIGHT = 2, DUTY_AT_BOUNDED = 3, DUTY_AT_TIME = 4, DUTY_NUMBERS = 5 };
 
-/* The kinds of step in a trace: the first byte of a step; the second is the event, 0 for a tick. */
+/* The kinds of step in a trace: the first byte of a step; the second is the event, 0 for a tick. Kind 1 means what kind 0 means, so that the
+   traces of versions up to 6 run, which had one kind for each class of event. */
 enum duty_step {
-    DUTY_REQUEST = 0,
-    DUTY_REPORT = 1,
+    DUTY_HAPPEN = 0,
     DUTY_PLAIN_TICK = 2,
     DUTY_GUARDED_TICK = 3
 };
@@ -195,8 +195,8 @@ DUTY_CALL uint8_t duty_enabled(const uint8_t *table, size_t table_length, const 
                                size_t event, uint8_t *DUTY_ALONE enabled);
 
 /* What the marking has of an event: the seven fields of its record in the image's order, each in a place of its own, a flag as 0 or 1. `fields`
-   has at least 7 places, of which the first 7 are written. 8, then 14 where there are fewer. The last is the count, how often it was executed: by a
-   request, a report or a guarded tick, up to DUTY_COUNT_LIMIT; what duty_remedies tries is not counted. */
+   has at least 7 places, of which the first 7 are written. 8, then 14 where there are fewer. The last is the count, how often it was executed:
+   where it happened or a guarded tick caused it, up to DUTY_COUNT_LIMIT; what duty_remedies tries is not counted. */
 enum duty_field {
     DUTY_HAPPENED = 0,
     DUTY_AGE = 1,
@@ -268,11 +268,8 @@ DUTY_CALL uint8_t duty_remedies(const uint8_t *table, size_t table_length, const
 
 /* Acting: the marking changes */
 
-/* A controllable event is executed. 8, 9, 10. */
-DUTY_CALL uint8_t duty_request(const uint8_t *table, size_t table_length, uint8_t *DUTY_ALONE marking, size_t marking_length, size_t event);
-
-/* An uncontrollable event is executed. 8, 9, 10. */
-DUTY_CALL uint8_t duty_report(const uint8_t *table, size_t table_length, uint8_t *DUTY_ALONE marking, size_t marking_length, size_t event);
+/* An event happens: whatever its class, it is executed, if enabled. 8, 10. */
+DUTY_CALL uint8_t duty_happen(const uint8_t *table, size_t table_length, uint8_t *DUTY_ALONE marking, size_t marking_length, size_t event);
 
 /* One tick passes. 11. */
 DUTY_CALL uint8_t duty_plain_tick(const uint8_t *table, size_t table_length, uint8_t *DUTY_ALONE marking, size_t marking_length);
@@ -285,7 +282,7 @@ DUTY_CALL uint8_t duty_guarded_tick(const uint8_t *table, size_t table_length, u
                                     uint8_t *DUTY_ALONE reason, size_t *DUTY_ALONE place);
 
 /* A trace of steps of 2 bytes, a kind of duty_step and an event; ticks have event 0. One answer byte per step, 0 for done or the step's number
-   (15, 8, 9, 10; 11; 12); a refused step leaves the marking and the run goes on. The marking is the one at the end. 1 where the steps have an
+   (15, 8, 10; 11; 12); a refused step leaves the marking and the run goes on. The marking is the one at the end. 1 where the steps have an
    odd length; 14 above 4,096 steps, or where there are fewer answer bytes than steps. */
 DUTY_CALL uint8_t duty_run(const uint8_t *table, size_t table_length, uint8_t *DUTY_ALONE marking, size_t marking_length,
                            const uint8_t *steps, size_t steps_length, uint8_t *DUTY_ALONE answers, size_t answers_length);

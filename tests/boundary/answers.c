@@ -86,47 +86,46 @@ int main(void)
         case 3: number = (uint8_t)duty_lowest(asked); break;
         case 4: number = duty_enabled(TABLE, MARKING, asked, &small); break;
         case 5: number = duty_due(TABLE, MARKING, &set); break;
-        case 6: number = duty_request(TABLE, MARKING, asked); break;
-        case 7: number = duty_report(TABLE, MARKING, asked); break;
-        case 8: number = duty_plain_tick(TABLE, MARKING); break;
-        case 9: number = duty_margin(TABLE, MARKING, asked, &small, &ticks); break;
-        case 10: number = duty_hold_up(TABLE, MARKING, asked, &small, &large); break;
-        case 11: number = duty_closure(TABLE, MARKING, &set, &size); break;
-        case 12: number = duty_check(TABLE, MARKING, &small, &large); break;
-        case 13: number = duty_guarded_tick(TABLE, MARKING, SECOND, &count, &small, &large); break;
-        case 14: number = duty_remedies(TABLE, MARKING, FIRST, SECOND, &small, &large); break;
-        case 15: number = duty_run(TABLE, MARKING, FIRST, SECOND); break;
-        case 16:
+        case 6: number = duty_happen(TABLE, MARKING, asked); break;
+        case 7: number = duty_plain_tick(TABLE, MARKING); break;
+        case 8: number = duty_margin(TABLE, MARKING, asked, &small, &ticks); break;
+        case 9: number = duty_hold_up(TABLE, MARKING, asked, &small, &large); break;
+        case 10: number = duty_closure(TABLE, MARKING, &set, &size); break;
+        case 11: number = duty_check(TABLE, MARKING, &small, &large); break;
+        case 12: number = duty_guarded_tick(TABLE, MARKING, SECOND, &count, &small, &large); break;
+        case 13: number = duty_remedies(TABLE, MARKING, FIRST, SECOND, &small, &large); break;
+        case 14: number = duty_run(TABLE, MARKING, FIRST, SECOND); break;
+        case 15:
             places = unpack(&second);
             number = duty_record(TABLE, MARKING, asked, numbers, places);
             pack(&second);
             break;
-        case 17:
+        case 16:
             places = unpack(&marking);
             number = duty_write_table(asked, first_number(&table), FIRST, numbers, places, SECOND);
             break;
-        case 18:
+        case 17:
             places = unpack(&second);
             number = duty_relation(TABLE, asked, numbers, places);
             pack(&second);
             break;
-        case 19: number = duty_class(TABLE, asked, &small); break;
-        case 20: number = duty_carry(asked, FIRST, SECOND); break;
-        case 21: number = duty_firm(TABLE, &firm); break;
-        case 22:
+        case 18: number = duty_class(TABLE, asked, &small); break;
+        case 19: number = duty_carry(asked, FIRST, SECOND); break;
+        case 20: number = duty_firm(TABLE, &firm); break;
+        case 21:
             memcpy(chain, second.bytes, second.length);
             number = duty_chain(TABLE, MARKING, asked, chain, second.length / sizeof chain[0], &count);
             memcpy(second.bytes, chain, second.length);
             break;
         default: return 1;
         }
-        if (call == 5 || call == 11)
+        if (call == 5 || call == 10)
             large = set;
-        if (call == 9)
+        if (call == 8)
             memcpy(&large, &ticks, sizeof ticks);
-        if (call == 11)
+        if (call == 10)
             memcpy(&count, &size, sizeof size);
-        if (call == 21)
+        if (call == 20)
             memcpy(&large, &firm, sizeof firm);
         put(&number, 1);
         put(&small, 1);

@@ -177,8 +177,7 @@ static void all_refused(const void *table, size_t table_length, const void *mark
     CHECK(record(i, 0) == number);
     CHECK(duty_enabled(T(i), M(i), 0, SMALL) == number);
     CHECK(duty_due(T(i), M(i), SET) == number);
-    CHECK(duty_request(T(i), M(i), FLUSH) == number);
-    CHECK(duty_report(T(i), M(i), LEAK) == number);
+    CHECK(duty_happen(T(i), M(i), FLUSH) == number);
     CHECK(duty_plain_tick(T(i), M(i)) == number);
     CHECK(duty_margin(T(i), M(i), 0, SMALL, TICKS) == number);
     CHECK(duty_hold_up(T(i), M(i), 0, SMALL, PLACE) == number);
@@ -226,7 +225,7 @@ static struct images shop(void) { return start(shop_table); }
 static struct images shop_due(void)
 {
     struct images i = shop();
-    CHECK(duty_report(T(i), M(i), LEAK) == DUTY_DONE);
+    CHECK(duty_happen(T(i), M(i), LEAK) == DUTY_DONE);
     for (int minute = 0; minute < 3; minute++)
         CHECK(guarded(i) == DUTY_DONE && *COUNT == 0);
     return i;
@@ -243,7 +242,7 @@ static void plays_the_shop(void)
     CHECK(duty_due(T(i), M(i), SET) == DUTY_DONE && *SET == 0);
     CHECK(duty_hold_up(T(i), M(i), FLUSH, SMALL, PLACE) == DUTY_DONE && *SMALL == DUTY_EXCLUDED && *PLACE == 0);
     open_up(i.marking);
-    CHECK(duty_report(T(i), M(i), LEAK) == DUTY_DONE);
+    CHECK(duty_happen(T(i), M(i), LEAK) == DUTY_DONE);
     CHECK(duty_enabled(T(i), M(i), ISOLATE, SMALL) == DUTY_DONE && *SMALL == 1);
     CHECK(duty_enabled(T(i), M(i), FLUSH, SMALL) == DUTY_DONE && *SMALL == 0);
     CHECK(duty_hold_up(T(i), M(i), FLUSH, SMALL, PLACE) == DUTY_DONE && *SMALL == DUTY_BLOCKED && *PLACE == 1);
@@ -283,6 +282,29 @@ static void tells_records(void)
     leave(i);
 }
 
+/* The flush before the leak, which includes it, and behind what it waits for; by the call and by both kinds of step, with each event of its
+   class and with each of the other. */
+static void happens_in_either_class(void)
+{
+    static const uint8_t events[] = {FLUSH, LEAK, FLUSH, ISOLATE, DRAIN, FLUSH, EVENTS}, answers[] = {10, 0, 10, 0, 0, 0, 8};
+    uint8_t table[sizeof shop_table], steps[2 * sizeof events];
+    for (unsigned turn = 0; turn < 4; turn++) {
+        memcpy(table, shop_table, sizeof table);
+        for (size_t e = 0; e < EVENTS; e++)
+            table[4 + e] ^= turn < 2 ? 0 : DUTY_CONTROLLABLE;
+        struct images i = start(table), other = start(table);
+        for (size_t k = 0; k < sizeof events; k++) {
+            CHECK(duty_happen(T(i), M(i), events[k]) == answers[k]);
+            steps[2 * k] = turn % 2 == 0 ? DUTY_HAPPEN : 1;
+            steps[2 * k + 1] = events[k];
+        }
+        CHECK(run(other, steps, sizeof steps) == DUTY_DONE && memcmp(other.answers.bytes, answers, sizeof answers) == 0);
+        CHECK(memcmp(i.marking.bytes, other.marking.bytes, i.marking.length) == 0 && kept_before(i.marking));
+        leave(i);
+        leave(other);
+    }
+}
+
 /* Counting */
 
 /* how often an event was executed, as duty_record tells it */
@@ -314,17 +336,16 @@ static void set_executions(struct images i, size_t event, uint32_t times)
 static void counts_executions(void)
 {
     static const uint8_t preferred[] = {FLUSH, ISOLATE, DRAIN}, fallback[] = {DRAIN, ISOLATE, FLUSH, ISOLATE};
-    static const uint8_t steps[] = {1, LEAK, 0, ISOLATE, 1, LEAK, 0, DRAIN, 0, FLUSH, 1, FLUSH, 3, 0};
-    static const uint8_t answers[] = {0, 0, 0, 0, 0, 9, 0};
+    static const uint8_t steps[] = {1, LEAK, 0, ISOLATE, 0, LEAK, 1, DRAIN, 0, FLUSH, 1, FLUSH, 3, 0}, answers[7] = {0};
     struct images i = shop();
     CHECK(counted(i, (const uint32_t[EVENTS]){0}));
-    CHECK(duty_request(T(i), M(i), ISOLATE) == DUTY_DONE && duty_request(T(i), M(i), ISOLATE) == DUTY_DONE);
+    CHECK(duty_happen(T(i), M(i), ISOLATE) == DUTY_DONE && duty_happen(T(i), M(i), ISOLATE) == DUTY_DONE);
     CHECK(counted(i, (const uint32_t[EVENTS]){[ISOLATE] = 2}));
     leave(i);
 
     i = shop_due();
     CHECK(counted(i, (const uint32_t[EVENTS]){[LEAK] = 1}));
-    CHECK(duty_request(T(i), M(i), FLUSH) == DUTY_NOT_ENABLED && duty_plain_tick(T(i), M(i)) == DUTY_IS_DUE);
+    CHECK(duty_happen(T(i), M(i), FLUSH) == DUTY_NOT_ENABLED && duty_plain_tick(T(i), M(i)) == DUTY_IS_DUE);
     shut(i.marking);
     CHECK(duty_remedies(T(i), M(i), preferred, 3, fallback, 4, SMALL, PLACE) == DUTY_DONE && *SMALL == DUTY_FALLBACK && *PLACE == 3);
     CHECK(duty_remedies(T(i), M(i), fallback, 4, fallback, 4, SMALL, PLACE) == DUTY_DONE && *SMALL == DUTY_PREFERRED && *PLACE == 3);
@@ -334,11 +355,11 @@ static void counts_executions(void)
     CHECK(guarded(i) == DUTY_DONE && *COUNT == 3);
     CHECK(counted(i, (const uint32_t[EVENTS]){[LEAK] = 1, [FLUSH] = 1, [ISOLATE] = 1, [DRAIN] = 1}));
     CHECK(duty_remedies(T(i), M(i), fallback, 4, preferred, 3, SMALL, PLACE) == DUTY_DONE && *SMALL == DUTY_PREFERRED && *PLACE == 0);
-    CHECK(duty_report(T(i), M(i), STANDBY) == DUTY_DONE && guarded(i) == DUTY_DONE && *COUNT == 0);
-    CHECK(duty_request(T(i), M(i), FLUSH) == DUTY_NOT_ENABLED); /* excluded, and it has happened */
+    CHECK(duty_happen(T(i), M(i), STANDBY) == DUTY_DONE && guarded(i) == DUTY_DONE && *COUNT == 0);
+    CHECK(duty_happen(T(i), M(i), FLUSH) == DUTY_NOT_ENABLED); /* excluded, and it has happened */
     CHECK(counted(i, (const uint32_t[EVENTS]){1, 1, 1, 1, 1}));
     CHECK(run(i, steps, sizeof steps) == DUTY_DONE && memcmp(i.answers.bytes, answers, sizeof answers) == 0);
-    CHECK(counted(i, (const uint32_t[EVENTS]){[LEAK] = 3, [FLUSH] = 2, [ISOLATE] = 2, [STANDBY] = 1, [DRAIN] = 2}));
+    CHECK(counted(i, (const uint32_t[EVENTS]){[LEAK] = 3, [FLUSH] = 3, [ISOLATE] = 2, [STANDBY] = 1, [DRAIN] = 2}));
     leave(i);
 }
 
@@ -350,10 +371,10 @@ static void holds_counts(void)
     struct images i = shop();
     set_executions(i, ISOLATE, DUTY_COUNT_LIMIT - 1);
     CHECK(executions(i, ISOLATE) == DUTY_COUNT_LIMIT - 1);
-    CHECK(duty_request(T(i), M(i), ISOLATE) == DUTY_DONE && executions(i, ISOLATE) == DUTY_COUNT_LIMIT);
-    CHECK(duty_request(T(i), M(i), ISOLATE) == DUTY_DONE && executions(i, ISOLATE) == DUTY_COUNT_LIMIT);
+    CHECK(duty_happen(T(i), M(i), ISOLATE) == DUTY_DONE && executions(i, ISOLATE) == DUTY_COUNT_LIMIT);
+    CHECK(duty_happen(T(i), M(i), ISOLATE) == DUTY_DONE && executions(i, ISOLATE) == DUTY_COUNT_LIMIT);
     set_executions(i, LEAK, DUTY_COUNT_LIMIT);
-    CHECK(duty_report(T(i), M(i), LEAK) == DUTY_DONE && executions(i, LEAK) == DUTY_COUNT_LIMIT);
+    CHECK(duty_happen(T(i), M(i), LEAK) == DUTY_DONE && executions(i, LEAK) == DUTY_COUNT_LIMIT);
     CHECK(run(i, steps, sizeof steps) == DUTY_DONE && memcmp(i.answers.bytes, "\0\0", 2) == 0);
     CHECK(executions(i, ISOLATE) == DUTY_COUNT_LIMIT && executions(i, LEAK) == DUTY_COUNT_LIMIT);
     leave(i);
@@ -399,11 +420,11 @@ static void refuses(void)
     shut(i.marking);
     shut(i.caused);
     shut_answers();
-    CHECK(duty_request(T(i), M(i), FLUSH) == DUTY_NOT_ENABLED);
-    CHECK(duty_request(T(i), M(i), LEAK) == DUTY_CLASS);
-    CHECK(duty_report(T(i), M(i), FLUSH) == DUTY_CLASS);
-    CHECK(duty_request(T(i), M(i), EVENTS) == DUTY_NONE_SUCH);
-    CHECK(duty_report(T(i), M(i), SIZE_MAX) == DUTY_NONE_SUCH);
+    CHECK(duty_happen(T(i), M(i), FLUSH) == DUTY_NOT_ENABLED);
+    CHECK(duty_happen(T(i), M(i), EVENTS) == DUTY_NONE_SUCH);
+    CHECK(duty_happen(T(i), M(i), DUTY_MOST_EVENTS) == DUTY_NONE_SUCH);
+    CHECK(duty_happen(T(i), M(i), (size_t)1 << 32) == DUTY_NONE_SUCH);
+    CHECK(duty_happen(T(i), M(i), SIZE_MAX) == DUTY_NONE_SUCH);
     CHECK(duty_enabled(T(i), M(i), SIZE_MAX, SMALL) == DUTY_NONE_SUCH);
     CHECK(duty_hold_up(T(i), M(i), EVENTS, SMALL, PLACE) == DUTY_NONE_SUCH);
     CHECK(duty_margin(T(i), M(i), 6, SMALL, TICKS) == DUTY_NONE_SUCH);
@@ -922,47 +943,39 @@ static void keeps_the_smaller_deadline(void)
     };
     for (size_t k = 0; k < sizeof met / sizeof met[0]; k++) {
         struct images i = meeting(DUTY_FIRM, 1, met[k].had, met[k].given);
-        CHECK(duty_request(T(i), M(i), 0) == DUTY_DONE && has(i, 1, met[k].in_a_firm_table) && kept_before(i.marking));
+        CHECK(duty_happen(T(i), M(i), 0) == DUTY_DONE && has(i, 1, met[k].in_a_firm_table) && kept_before(i.marking));
         leave(i);
         i = meeting(DUTY_NOT_FIRM, 1, met[k].had, met[k].given);
-        CHECK(duty_request(T(i), M(i), 0) == DUTY_DONE && has(i, 1, met[k].given));
+        CHECK(duty_happen(T(i), M(i), 0) == DUTY_DONE && has(i, 1, met[k].given));
         leave(i);
         /* a response to itself finds nothing: the event was cleared */
         for (uint32_t firm = DUTY_NOT_FIRM; firm <= DUTY_FIRM; firm++) {
             i = meeting(firm, 0, met[k].had, met[k].given);
-            CHECK(duty_request(T(i), M(i), 0) == DUTY_DONE && has(i, 0, met[k].given));
+            CHECK(duty_happen(T(i), M(i), 0) == DUTY_DONE && has(i, 0, met[k].given));
             leave(i);
         }
     }
 }
 
-/* A flush that is due in one minute stays so where a leak comes again, whichever call executes the leak; in a table that is not firm it is put off. */
+/* A flush that is due in one minute stays so where a leak comes again, by the call or by a step; in a table that is not firm it is put off. */
 static void keeps_a_date(void)
 {
-    static const uint8_t steps[] = {1, LEAK, 3, 0, 3, 0, 1, LEAK};
+    static const uint8_t steps[] = {1, LEAK, 2, 0, 3, 0, 0, LEAK};
     uint8_t table[sizeof shop_table];
     memcpy(table, shop_table, sizeof table);
     for (uint32_t firm = DUTY_NOT_FIRM; firm <= DUTY_FIRM; firm++) {
         const struct duty *behind = firm == DUTY_FIRM ? &in_1 : &in_3;
         table[2] = (uint8_t)(firm * 128);
-        table[4 + LEAK] = 0;
         struct images i = start(table);
         CHECK(duty_firm(T(i), SIZE) == DUTY_DONE && *SIZE == firm);
-        CHECK(duty_report(T(i), M(i), LEAK) == DUTY_DONE && has(i, FLUSH, &in_3));
+        CHECK(duty_happen(T(i), M(i), LEAK) == DUTY_DONE && has(i, FLUSH, &in_3));
         CHECK(guarded(i) == DUTY_DONE && guarded(i) == DUTY_DONE && has(i, FLUSH, &in_1));
-        CHECK(duty_report(T(i), M(i), LEAK) == DUTY_DONE && has(i, FLUSH, behind) && has(i, DRAIN, &eventually));
+        CHECK(duty_happen(T(i), M(i), LEAK) == DUTY_DONE && has(i, FLUSH, behind) && has(i, DRAIN, &eventually));
         CHECK(guarded(i) == DUTY_DONE && *COUNT == 0 && guarded(i) == DUTY_DONE && *COUNT == (firm == DUTY_FIRM ? 3 : 0));
         leave(i);
 
         i = start(table);
         CHECK(run(i, steps, sizeof steps) == DUTY_DONE && memcmp(i.answers.bytes, "\0\0\0\0", 4) == 0 && has(i, FLUSH, behind));
-        leave(i);
-
-        table[4 + LEAK] = DUTY_CONTROLLABLE;
-        i = start(table);
-        CHECK(duty_request(T(i), M(i), LEAK) == DUTY_DONE && duty_plain_tick(T(i), M(i)) == DUTY_DONE);
-        CHECK(duty_plain_tick(T(i), M(i)) == DUTY_DONE && has(i, FLUSH, &in_1));
-        CHECK(duty_request(T(i), M(i), LEAK) == DUTY_DONE && has(i, FLUSH, behind));
         leave(i);
     }
 }
@@ -1216,11 +1229,11 @@ static void lists_the_shops(void)
     CHECK(lists(i, FLUSH, both, 0)); /* excluded */
     CHECK(lists(i, ISOLATE, both, 0)); /* enabled */
     open_up(i.marking);
-    CHECK(duty_report(T(i), M(i), LEAK) == DUTY_DONE);
+    CHECK(duty_happen(T(i), M(i), LEAK) == DUTY_DONE);
     CHECK(lists(i, FLUSH, both, 2));
-    CHECK(duty_request(T(i), M(i), ISOLATE) == DUTY_DONE);
+    CHECK(duty_happen(T(i), M(i), ISOLATE) == DUTY_DONE);
     CHECK(lists(i, FLUSH, both + 1, 1));
-    CHECK(duty_request(T(i), M(i), DRAIN) == DUTY_DONE);
+    CHECK(duty_happen(T(i), M(i), DRAIN) == DUTY_DONE);
     CHECK(lists(i, FLUSH, both, 0));
     leave(i);
 }
@@ -1309,7 +1322,7 @@ static void lists_nothing(void)
 {
     static const size_t rooms[] = {0, 1, 255};
     struct images i = shop();
-    CHECK(duty_report(T(i), M(i), LEAK) == DUTY_DONE);
+    CHECK(duty_happen(T(i), M(i), LEAK) == DUTY_DONE);
     shut(i.marking);
     shut(i.list);
     shut_answers();
@@ -1340,7 +1353,7 @@ static void keeps_the_limits(void)
     struct images i = take(table, 4 + 64 + 6 * 256, marking, DUTY_LONGEST_MARKING);
     CHECK(duty_judge(T(i), M(i)) == DUTY_DONE);
     CHECK(duty_margin(T(i), M(i), 255, SMALL, TICKS) == DUTY_DONE && *SMALL == DUTY_NEVER);
-    CHECK(duty_request(T(i), M(i), 0) == DUTY_CLASS && duty_report(T(i), M(i), 0) == DUTY_DONE && duty_report(T(i), M(i), 63) == DUTY_NOT_ENABLED);
+    CHECK(duty_happen(T(i), M(i), 0) == DUTY_DONE && duty_happen(T(i), M(i), 63) == DUTY_NOT_ENABLED);
     CHECK(duty_plain_tick(T(i), M(i)) == DUTY_DONE && kept_before(i.marking));
     leave(i);
 
@@ -1426,6 +1439,7 @@ int main(void)
     count = lend(NULL, sizeof(size_t));
     plays_the_shop();
     tells_records();
+    happens_in_either_class();
     counts_executions();
     holds_counts();
     offers_remedies();

@@ -30,15 +30,14 @@ const fn call(name: &'static str, case: fn(&mut Rng) -> Case) -> Call {
 }
 
 /// By their numbers in a question. Judging, records and firm take the cases of other calls.
-const CALLS: [Call; 23] = [
+const CALLS: [Call; 22] = [
     call("judge", generate::due_case),
     call("fresh", generate::fresh_case),
     call("size", generate::size_case),
     call("lowest", generate::lowest_case),
     call("enabled", generate::enabled_case),
     call("due", generate::due_case),
-    call("request", generate::request_case),
-    call("report", generate::report_case),
+    call("happen", generate::happen_case),
     call("plain_tick", generate::plain_tick_case),
     call("margin", generate::margin_case),
     call("hold_up", generate::hold_up_case),
@@ -57,11 +56,13 @@ const CALLS: [Call; 23] = [
 ];
 
 /// The numbers that some call gives; 15 is a step's.
-const NUMBERS: std::ops::RangeInclusive<u8> = 0..=14;
+const NUMBERS: [u8; 14] = [0, 1, 2, 3, 4, 5, 6, 7, 8, 10, 11, 12, 13, 14];
 
 /// The numbers that each of these calls gives. Most are given by other calls too,
 /// so they are looked for call by call.
-const NUMBERS_OF: [(&str, &[u8]); 10] = [
+const NUMBERS_OF: [(&str, &[u8]); 12] = [
+    ("happen", &[0, 1, 2, 3, 4, 5, 6, 7, 8, 10]),
+    (STEP, &[0, 8, 10, 11, 12, 15]),
     ("record", &[0, 1, 2, 3, 4, 5, 6, 7, 8, 14]),
     ("write_table", &[0, 1, 2, 3, 4, 5, 6, 14]),
     (WRITE_FIRM, &[0, 1, 2, 3, 4, 5, 6, 14]),
@@ -74,8 +75,9 @@ const NUMBERS_OF: [(&str, &[u8]); 10] = [
     ("chain", &[1, 2, 3, 4, 5, 6, 7, 8, 14]),
 ];
 
-/// Looked for apart from the others of their call: a table that is to be firm, one
-/// that is to be neither firm nor not, and one that is told to be firm.
+/// Looked for apart from the others of their call: the steps of a run, a table that is
+/// to be firm, one that is to be neither firm nor not, and one that is told to be firm.
+const STEP: &str = "run, a step";
 const WRITE_FIRM: &str = "write_table, firm 1";
 const WRITE_NEITHER: &str = "write_table, firm above 1";
 const TOLD_FIRM: &str = "firm, told 1";
@@ -232,8 +234,7 @@ impl Question {
             }
             Case::Size { set } | Case::Lowest { set } => question.asked = set,
             Case::Enabled { event, .. }
-            | Case::Request { event, .. }
-            | Case::Report { event, .. }
+            | Case::Happen { event, .. }
             | Case::HoldUp { event, .. } => question.asked = event as u64,
             Case::Chain { event, list, .. } => {
                 question.asked = event as u64;
@@ -421,6 +422,16 @@ impl Question {
         Some((name, answer.number))
     }
 
+    /// All that came up: the number, and of a run that is done those of its steps.
+    fn shown(&self, answer: &Answer) -> Vec<(&'static str, u8)> {
+        let mut all = Vec::from_iter(self.seen(answer));
+        if CALLS[self.call].name == "run" && answer.number == 0 {
+            let steps = &answer.second[..self.first.len() / 2];
+            all.extend(steps.iter().map(|number| (STEP, *number)));
+        }
+        all
+    }
+
     fn of_images(&self, t: &Table, m: &Marking) -> Answer {
         let asked = self.asked as usize;
         match CALLS[self.call].name {
@@ -438,8 +449,7 @@ impl Question {
                 }
                 answer
             }
-            "request" => self.acted(&second::request(t, m, asked)),
-            "report" => self.acted(&second::report(t, m, asked)),
+            "happen" => self.acted(&second::happen(t, m, asked)),
             "plain_tick" => self.acted(&second::plain_tick(t, m)),
             "margin" => match second::margin(t, m, asked) {
                 MarginAnswer::Refused(number) => self.untouched(number),
@@ -598,7 +608,7 @@ pub fn run(
                 got,
             })));
         }
-        seen.extend(question.seen(&got));
+        seen.extend(question.shown(&got));
     }
     asking.join().expect("the questions were asked");
     let ended = child.wait()?;
@@ -612,22 +622,24 @@ pub fn run(
 
 /// The numbers that did not come up, and of which call they were wanted.
 pub fn missing(seen: &Seen) -> Vec<(&'static str, u8)> {
-    let some_call = |number| seen.iter().any(|found| found.1 == number);
-    let of_any = NUMBERS.filter(|&number| !some_call(number));
-    let of_calls = NUMBERS_OF
+    let of_calls = Vec::from_iter(seen.iter().filter(|found| found.0 != STEP));
+    let some_call = |number| of_calls.iter().any(|found| found.1 == number);
+    let of_any = NUMBERS.into_iter().filter(|&number| !some_call(number));
+    let of_each = NUMBERS_OF
         .iter()
         .flat_map(|(name, numbers)| numbers.iter().map(|number| (*name, *number)))
         .chain(kinds())
         .filter(|wanted| !seen.contains(wanted));
     of_any
         .map(|number| ("any call", number))
-        .chain(of_calls)
+        .chain(of_each)
         .collect()
 }
 
 #[cfg(test)]
 mod tests {
     use super::*;
+    use crate::never::fault;
 
     #[test]
     fn questions_of_every_call_bring_every_number_up() {
@@ -638,7 +650,7 @@ mod tests {
             let answer = question.expected();
             assert_eq!(answer.marking.len(), question.marking.len());
             assert_eq!(answer.second.len(), question.second.len());
-            seen.extend(question.seen(&answer));
+            seen.extend(question.shown(&answer));
         }
         assert_eq!(missing(&seen), []);
         // No number besides: a call that gives one more has to be looked for too.
@@ -654,8 +666,8 @@ mod tests {
 
     #[test]
     fn a_number_that_does_not_come_up_is_missed() {
-        let mut seen: Seen = NUMBERS.map(|number| ("run", number)).collect();
-        let of_calls = 10 + 8 + 8 + 1 + 9 + 8 + 5 + 7 + 1 + 9;
+        let mut seen = Seen::from(NUMBERS.map(|number| ("run", number)));
+        let of_calls = 10 + 6 + 10 + 8 + 8 + 1 + 9 + 8 + 5 + 7 + 1 + 9;
         assert_eq!(missing(&seen).len(), of_calls + 9 + 4 + 5);
         for (name, numbers) in NUMBERS_OF {
             seen.extend(numbers.iter().map(|&number| (name, number)));
@@ -673,6 +685,20 @@ mod tests {
             without.remove(&("carry", number));
             assert_eq!(missing(&without), [("carry", number)]);
         }
+    }
+
+    #[test]
+    fn a_call_and_a_step_that_give_9_are_noticed() {
+        let noticed = |call: &str, number: u8, second: &[u8]| {
+            let mut question = Question::random(&mut Rng::new(1), number_of(call));
+            (question.first, question.second) = (vec![0; 4], second.to_vec());
+            fault(question.shown(&question.untouched(number))).is_some()
+        };
+        assert!(noticed("happen", 9, &[]) && noticed("check", 9, &[]));
+        assert!(!noticed("happen", 10, &[9]) && !noticed("size", 9, &[]));
+        // Two steps: what is lent behind their answers stays, and all of it in a refusal.
+        assert!(noticed("run", 0, &[0, 9]) && noticed("run", 0, &[9, 0]));
+        assert!(!noticed("run", 0, &[0, 0, 9]) && !noticed("run", 14, &[9, 9]));
     }
 
     #[test]

@@ -29,7 +29,7 @@ const fn call(
     }
 }
 
-pub const CALLS: [Call; 24] = [
+pub const CALLS: [Call; 23] = [
     call(
         1,
         "read_table",
@@ -65,8 +65,6 @@ pub const CALLS: [Call; 24] = [
     call(8, "lowest", generate::lowest_case, edges::lowest),
     call(9, "enabled", generate::enabled_case, edges::enabled),
     call(10, "due", generate::due_case, edges::due),
-    call(11, "request", generate::request_case, edges::request),
-    call(12, "report", generate::report_case, edges::report),
     call(
         13,
         "plain_tick",
@@ -99,6 +97,14 @@ pub const CALLS: [Call; 24] = [
         edges::carry_marking,
     ),
     call(24, "chain", generate::chain_case, edges::chain),
+    call(25, "happen", generate::happen_case, edges::happen),
+];
+
+/// The numbers of calls that are gone: no other call gets one, and the answer is
+/// empty. They are asked what the call is that took their place.
+pub const RETIRED: [Call; 2] = [
+    call(11, "retired", generate::happen_case, edges::happen),
+    call(12, "retired", generate::happen_case, edges::happen),
 ];
 
 /// The calls with these numbers, written as `1-6,9`; None if it is no such list.
@@ -128,6 +134,7 @@ mod tests {
     fn calls_are_chosen_by_their_numbers() {
         assert_eq!(numbers("1-3,7"), Some(vec![1, 2, 3, 7]));
         assert_eq!(numbers("0"), None);
+        assert_eq!(numbers("10-11"), None, "11 is retired");
         assert_eq!(numbers("x"), None);
     }
 

@@ -1,9 +1,9 @@
 //! Questions go out, answers come back in the same order, and each is held
 //! against the second implementation's.
 
-use crate::calls::Call;
+use crate::calls::{Call, RETIRED};
 use crate::{shape, wire};
-use second::case::Case;
+use second::case::{Answer, Case};
 use second::rng::Rng;
 use std::collections::BTreeMap;
 use std::fmt;
@@ -17,19 +17,38 @@ pub struct Question {
     pub expected: Vec<u8>,
     /// 0 for done, else the refusal number.
     pub number: u8,
+    /// The same of each step of a run that is done.
+    pub steps: Vec<u8>,
     /// What the case has in it.
     pub shapes: Vec<&'static str>,
 }
 
+/// The answers to the steps of a run that is done. What is lent behind them stays.
+fn step_numbers(case: &Case, answer: &Answer) -> Vec<u8> {
+    let steps = match case {
+        Case::Run { steps, .. } => steps.len(),
+        Case::RunBytes { steps, .. } => steps.len() / 2,
+        _ => 0,
+    };
+    match answer {
+        Answer::Run { end, answers } if end.number == 0 => answers[..steps].to_vec(),
+        _ => Vec::new(),
+    }
+}
+
 impl Question {
     pub fn new(call: &'static Call, case: &Case) -> Question {
-        let answer = case.answer();
+        Question::answered(call, case, &case.answer())
+    }
+
+    fn answered(call: &'static Call, case: &Case, answer: &Answer) -> Question {
         Question {
             call,
             payload: wire::payload(case),
-            expected: wire::answer(case, &answer),
+            expected: wire::answer(case, answer),
             number: answer.number(),
-            shapes: shape::of(case, &answer),
+            steps: step_numbers(case, answer),
+            shapes: shape::of(case, answer),
         }
     }
 
@@ -47,6 +66,17 @@ pub fn edge_questions(calls: Vec<&'static Call>) -> impl Iterator<Item = Questio
     calls.into_iter().flat_map(|call| {
         let cases = (call.edges)().into_iter();
         cases.map(move |case| Question::new(call, &case))
+    })
+}
+
+/// Some cases for each retired number: whatever they hold, the answer is empty.
+pub fn retired_questions() -> impl Iterator<Item = Question> {
+    let asked = edge_questions(RETIRED.iter().collect()).step_by(97);
+    asked.map(|question| Question {
+        expected: Vec::new(),
+        number: 0,
+        shapes: Vec::new(),
+        ..question
     })
 }
 
@@ -145,10 +175,11 @@ pub fn difference(question: Question, got: Got) -> Option<Difference> {
 }
 
 /// Of one call: how many cases there were, by their number for done or refusal,
-/// and by what they have in them.
+/// and by what they have in them; and how many steps, by theirs.
 #[derive(Default)]
 struct Count {
     numbers: BTreeMap<u8, usize>,
+    steps: BTreeMap<u8, usize>,
     shapes: BTreeMap<&'static str, usize>,
 }
 
@@ -168,6 +199,9 @@ impl Tally {
         let call = (question.call.number, question.call.name);
         let count = self.counts.entry(call).or_default();
         *count.numbers.entry(question.number).or_default() += 1;
+        for step in &question.steps {
+            *count.steps.entry(*step).or_default() += 1;
+        }
         for shape in &question.shapes {
             *count.shapes.entry(shape).or_default() += 1;
         }
@@ -176,16 +210,30 @@ impl Tally {
     pub fn cases(&self) -> usize {
         self.counts.values().map(Count::cases).sum()
     }
+
+    /// Every number that came up, and the call.
+    pub fn numbers(&self) -> impl Iterator<Item = (&'static str, u8)> + '_ {
+        self.counts.iter().flat_map(|((_, name), count)| {
+            let all = count.numbers.keys().chain(count.steps.keys());
+            all.map(move |number| (*name, *number))
+        })
+    }
+}
+
+/// How often each number came up.
+fn times(numbers: &BTreeMap<u8, usize>) -> String {
+    let each = |(number, times): (&u8, &usize)| format!("  {number} x {times}");
+    numbers.iter().map(each).collect()
 }
 
 impl fmt::Display for Tally {
     fn fmt(&self, out: &mut fmt::Formatter) -> fmt::Result {
         for ((number, name), count) in &self.counts {
-            write!(out, "{number:>2} {name:<14}{:>7} cases:", count.cases())?;
-            for (refusal, times) in &count.numbers {
-                write!(out, "  {refusal} x {times}")?;
+            let (cases, numbers) = (count.cases(), times(&count.numbers));
+            writeln!(out, "{number:>2} {name:<14}{cases:>7} cases:{numbers}")?;
+            if !count.steps.is_empty() {
+                writeln!(out, "   steps:{}", times(&count.steps))?;
             }
-            writeln!(out)?;
             if count.shapes.is_empty() {
                 continue;
             }
@@ -231,6 +279,8 @@ pub fn compare(
 mod tests {
     use super::*;
     use crate::calls::{chosen, CALLS};
+    use crate::never::fault;
+    use std::collections::BTreeSet;
 
     fn some_questions() -> Vec<Question> {
         let calls = chosen("1-6").expect("six calls");
@@ -292,6 +342,47 @@ mod tests {
         let report = report.to_string();
         for part in ["fresh", &payload, &expected, &hex(&wrong), "byte 5"] {
             assert!(report.contains(part), "{part} in {report}");
+        }
+    }
+
+    #[test]
+    fn a_retired_number_is_answered_with_nothing() {
+        let questions = Vec::from_iter(retired_questions());
+        let asked: BTreeSet<u8> = questions.iter().map(|q| q.frame()[0]).collect();
+        assert_eq!(Vec::from_iter(asked), [11, 12]);
+        assert!(verdict(&questions, &vec![0; 2 * questions.len()]).is_ok());
+    }
+
+    /// Whether a fault is seen where both sides answer a call's first case so.
+    fn noticed(call: &str, turn: impl Fn(&mut Answer)) -> bool {
+        let call = chosen(call).expect("a call")[0];
+        let case = &(call.edges)()[0];
+        let mut answer = case.answer();
+        turn(&mut answer);
+        let questions = [Question::answered(call, case, &answer)];
+        let tally = verdict(&questions, &output(&questions));
+        fault(tally.expect("no difference").numbers()).is_some()
+    }
+
+    #[test]
+    fn a_9_is_noticed_where_both_sides_give_it() {
+        let happen = |number: u8| {
+            noticed("25", |answer| match answer {
+                Answer::Marking(done) => done.number = number,
+                _ => panic!("an event happens"),
+            })
+        };
+        assert!(happen(9) && !happen(10));
+        for call in ["20", "21"] {
+            let run = |number: u8, place: usize| {
+                noticed(call, |answer| match answer {
+                    Answer::Run { end, answers } => (end.number, answers[place]) = (number, 9),
+                    _ => panic!("steps are run"),
+                })
+            };
+            // Seven steps, and a byte that is lent behind them; in a refusal all are.
+            assert!(run(0, 0) && run(0, 6));
+            assert!(!run(0, 7) && !run(14, 0));
         }
     }
 

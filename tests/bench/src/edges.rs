@@ -2,12 +2,14 @@
 //! at its limit and one past it, each spare bit, each field of a relation and of
 //! a record at each of its limits, faults where no call looks, and two faults at
 //! once, whose order decides the number; firm tables and tables that are not;
-//! excluded events that might return; and chains of events that wait for each other.
+//! excluded events that might return; chains of events that wait for each other; and
+//! events of both classes that happen.
 
 mod carrying;
 mod chain;
 mod counted;
 mod firm;
+pub mod happening;
 mod returned;
 
 pub use carrying::carry_marking;
@@ -643,17 +645,11 @@ pub fn enabled() -> Vec<Case> {
     cases
 }
 
-pub fn request() -> Vec<Case> {
-    let mut cases = full_cases(&EVENTS_ASKED, |pair, event| Case::Request { pair, event });
-    cases.extend(counted::requests());
-    cases.extend(firm::requests());
-    cases
-}
-
-pub fn report() -> Vec<Case> {
-    let mut cases = full_cases(&EVENTS_ASKED, |pair, event| Case::Report { pair, event });
-    cases.extend(counted::reports());
-    cases.extend(firm::reports());
+pub fn happen() -> Vec<Case> {
+    let mut cases = full_cases(&EVENTS_ASKED, |pair, event| Case::Happen { pair, event });
+    cases.extend(counted::happens());
+    cases.extend(firm::happens());
+    cases.extend(happening::cases());
     cases
 }
 
@@ -717,7 +713,7 @@ pub fn guarded_tick() -> Vec<Case> {
 /// Each trace has a byte more than its answers need.
 fn traces() -> impl Iterator<Item = (Pair, Vec<Step>, Vec<u8>)> {
     let all = counted::traces().chain(firm::traces());
-    all.map(|(pair, steps)| {
+    all.chain(happening::traces()).map(|(pair, steps)| {
         let answers = vec![0xA5; steps.len() + 1];
         (pair, steps, answers)
     })
@@ -766,6 +762,7 @@ mod tests {
         assert_eq!(numbers(judge_marking()), [0, 1, 3, 7]);
         assert_eq!(numbers(carry_marking()), [0, 1, 3, 7, 14]);
         assert_eq!(numbers(chain()), [0, 1, 3, 4, 5, 6, 7, 8, 14]);
+        assert_eq!(numbers(happen()), [0, 3, 8, 10]);
     }
 
     #[test]

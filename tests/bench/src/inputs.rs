@@ -1,17 +1,18 @@
 //! Whole inputs of the station program.
 
+use crate::edges::happening;
 use crate::shop;
 use second::case::{Case, Pair};
 use second::generate::{marking_image, old_marking_image, station_case, table_image};
 use second::rng::Rng;
-use second::{fresh, station, Marking, Record, Relation, Table, RECORD_BYTES};
+use second::{fresh, station, Marking, Record, Relation, Step, Table, RECORD_BYTES};
 use std::collections::BTreeSet;
 
 /// What the station can refuse an input with.
 pub const REFUSALS: [u8; 8] = [1, 2, 3, 4, 5, 6, 7, 14];
 
 /// What it can answer to a step.
-pub const ANSWERS: [u8; 7] = [0, 8, 9, 10, 11, 12, 15];
+pub const ANSWERS: [u8; 6] = [0, 8, 10, 11, 12, 15];
 
 const LONGEST_TRACE: usize = 4096;
 
@@ -95,43 +96,47 @@ fn counted(count: u32) -> (Vec<u8>, Marking) {
     (table_image(&table), marking)
 }
 
-/// Three reports at the first counts and about the hold; and a marking of the
-/// old form, before no steps and before as many as make its length up.
+/// The event three times at the first counts and about the hold; and a marking of
+/// the old form, before no steps and before as many as make its length up.
 fn counted_inputs() -> Vec<Vec<u8>> {
-    let reports = [1, 0].repeat(3);
+    let steps = vec![1, 0, 0, 0, 1, 0];
     let of = |count: u32| {
         let (table, marking) = counted(count);
-        [table, marking_image(&marking), reports.clone()].concat()
+        [table, marking_image(&marking), steps.clone()].concat()
     };
     let counts = [0, 1, u32::MAX - 4, u32::MAX - 2, u32::MAX - 1, u32::MAX];
     let mut inputs: Vec<Vec<u8>> = counts.into_iter().map(of).collect();
     let (table, marking) = counted(1);
     let old = [table, old_marking_image(&marking)].concat();
     inputs.push(old.clone());
-    inputs.push([old, reports].concat());
+    inputs.push([old, steps].concat());
     inputs
+}
+
+fn played((pair, steps): (Pair, Vec<Step>)) -> Vec<u8> {
+    let mut input = [table_image(&pair.table), marking_image(&pair.marking)].concat();
+    input.extend(steps.iter().flat_map(|step| [step.kind, step.event]));
+    input
 }
 
 /// The shop, its table firm and not, where a leak comes again; and a minute more.
 fn firm_inputs() -> Vec<Vec<u8>> {
     let mut inputs = Vec::new();
     for firm in [false, true] {
-        for steps in [shop::repeated(), shop::brought_back()] {
-            let Pair { table, marking } = shop::pair(firm);
-            let steps = steps.iter().flat_map(|step| [step.kind, step.event]);
-            let mut input = [table_image(&table), marking_image(&marking)].concat();
-            input.extend(steps.chain([3, 0]));
-            inputs.push(input);
+        for mut steps in [shop::repeated(), shop::brought_back()] {
+            steps.push(Step { kind: 3, event: 0 });
+            inputs.push(played((shop::pair(firm), steps)));
         }
     }
     inputs
 }
 
-/// The images and steps of so many bytes: reports, and a tick now and then.
+/// The images and steps of so many bytes: events by either kind, and a tick now and
+/// then.
 fn with_steps(images: &[u8], bytes: usize) -> Vec<u8> {
     let steps = (0..bytes).map(|place| match place / 2 % 5 {
         4 => [2, 0][place % 2],
-        step => [1, step as u8][place % 2],
+        step => [step as u8 / 2, step as u8][place % 2],
     });
     images.iter().copied().chain(steps).collect()
 }
@@ -141,6 +146,7 @@ pub fn edges() -> Vec<Vec<u8>> {
     let mut inputs = one_of_each();
     inputs.extend(counted_inputs());
     inputs.extend(firm_inputs());
+    inputs.extend(happening::traces().into_iter().map(played));
     for (events, count) in [(1, 0), (5, 20), (64, 256)] {
         let images = images(events, count);
         // Every end within the header, and around the ends of table and marking.
@@ -174,7 +180,7 @@ mod tests {
     }
 
     #[test]
-    fn a_count_is_held_over_the_reports_of_an_input() {
+    fn a_count_is_held_over_the_steps_of_an_input() {
         let ends: Vec<Vec<u8>> = counted_inputs().iter().map(|i| station(i)).collect();
         let counts = [3, 4, u32::MAX - 1, u32::MAX, u32::MAX, u32::MAX];
         for (end, count) in ends.iter().zip(counts) {
@@ -184,7 +190,7 @@ mod tests {
         // Too short; then the steps stand where a count would.
         assert_eq!(ends[6], [1]);
         assert_eq!(ends[7][0], 0);
-        assert_eq!(ends[7][9..], [1, 0, 1, 1]);
+        assert_eq!(ends[7][9..], [1, 0, 0, 1]);
     }
 
     #[test]

@@ -9,6 +9,7 @@ pub mod compare;
 pub mod edges;
 pub mod full;
 pub mod inputs;
+pub mod never;
 pub mod program;
 pub mod shape;
 pub mod shop;

@@ -1,6 +1,7 @@
 //! `bench --program WORD.. --cases N --seed S [--calls 1-6]` sends the cases at
 //! the limits and N random ones to one run of the program. It exits 0 if every
-//! answer agrees, 1 at the first that differs, 2 if the comparison was not made.
+//! answer agrees, 1 at the first that differs or if a number came up that is given
+//! no more, 2 if the comparison was not made.
 //!
 //! `bench --write FOLDER ..` runs nothing: it writes the N random cases to
 //! FOLDER/stdin and the answers that are expected to FOLDER/stdout, for `rt` to run.
@@ -9,7 +10,10 @@
 //! whole inputs at the limits and on N random ones, each in a run of its own.
 
 use bench::calls::{chosen, Call, CALLS};
-use bench::compare::{compare, edge_questions, random_questions, Difference, Question, Tally};
+use bench::compare::{
+    compare, edge_questions, random_questions, retired_questions, Difference, Question, Tally,
+};
+use bench::never::agreed;
 use bench::program::start;
 use bench::station;
 use std::io::{BufReader, Write};
@@ -107,7 +111,8 @@ fn run(words: &[String], wanted: &Wanted) -> std::io::Result<Result<Tally, Box<D
     let input = child.stdin.take().expect("the input is a pipe");
     let mut output = BufReader::new(child.stdout.take().expect("the output is a pipe"));
     let random = random_questions(wanted.calls.clone(), wanted.cases, wanted.seed);
-    let all = edge_questions(wanted.calls.clone()).chain(random);
+    let fixed = edge_questions(wanted.calls.clone()).chain(retired_questions());
+    let all = fixed.chain(random);
     let (hand_on, handed) = channel();
     let asking = thread::spawn(move || ask(all, input, hand_on));
     let verdict = compare(handed.into_iter(), &mut output)?;
@@ -130,10 +135,10 @@ fn run(words: &[String], wanted: &Wanted) -> std::io::Result<Result<Tally, Box<D
 fn compared(words: &[String], wanted: &Wanted) -> std::io::Result<(String, u8)> {
     let seed = wanted.seed;
     Ok(match run(words, wanted)? {
-        Ok(tally) if tally.cases() == 0 => ("bench: not compared: there are no cases".into(), 2),
         Ok(tally) => {
-            let cases = tally.cases();
-            (format!("{tally}bench: {cases} cases agree, seed {seed}"), 0)
+            let agree = format!("{} cases agree", tally.cases());
+            let (line, code) = agreed("bench", seed, tally.numbers(), &[(); 0], agree);
+            (format!("{tally}{line}"), code)
         }
         Err(difference) => {
             let report = format!("{difference}\nbench: the answers differ, seed {seed}");
@@ -145,19 +150,10 @@ fn compared(words: &[String], wanted: &Wanted) -> std::io::Result<(String, u8)> 
 fn station_compared(words: &[String], wanted: &Wanted) -> std::io::Result<(String, u8)> {
     let seed = wanted.seed;
     Ok(match station::run(words, wanted.cases, seed)? {
-        Ok(tally) if !tally.missing().is_empty() => {
-            let missing = tally.missing();
-            (
-                format!("bench: not compared: no input shows {missing:?}"),
-                2,
-            )
-        }
         Ok(tally) => {
-            let inputs = tally.inputs;
-            (
-                format!("{tally}bench: {inputs} inputs agree, seed {seed}"),
-                0,
-            )
+            let agree = format!("{} inputs agree", tally.inputs);
+            let (line, code) = agreed("bench", seed, tally.numbers(), &tally.missing(), agree);
+            (format!("{tally}{line}"), code)
         }
         Err(difference) => {
             let report = format!("{difference}\nbench: the outputs differ, seed {seed}");

@@ -44,11 +44,7 @@ fn relations(pair: &Pair) -> impl Iterator<Item = (u8, usize, usize)> + '_ {
 /// The events that a call has executed, in order.
 fn executed(case: &Case, answer: &Answer) -> Vec<usize> {
     match (case, answer) {
-        (Case::Request { event, .. } | Case::Report { event, .. }, Answer::Marking(done))
-            if done.number == 0 =>
-        {
-            vec![*event]
-        }
+        (Case::Happen { event, .. }, Answer::Marking(done)) if done.number == 0 => vec![*event],
         (_, Answer::Guarded(done)) => {
             let caused = &done.caused[..usize::from(done.count)];
             caused.iter().map(|&event| event.into()).collect()

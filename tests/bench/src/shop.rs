@@ -37,27 +37,26 @@ pub fn pair(firm: bool) -> Pair {
     }
 }
 
-const REPORT_LEAK: Step = Step {
-    kind: 1,
-    event: LEAK as u8,
-};
-const REPORT_STANDBY: Step = Step {
-    kind: 1,
-    event: STANDBY as u8,
-};
-const MINUTE: Step = Step { kind: 3, event: 0 };
+const fn step(kind: u8, event: usize) -> Step {
+    let event = event as u8;
+    Step { kind, event }
+}
+
+const LEAKS: Step = step(1, LEAK);
+const STANDS_BY: Step = step(0, STANDBY);
+const MINUTE: Step = step(3, 0);
 
 /// A leak, two minutes, and the leak again: the flush was due in one minute.
 pub fn repeated() -> Vec<Step> {
-    vec![REPORT_LEAK, MINUTE, MINUTE, REPORT_LEAK]
+    vec![LEAKS, MINUTE, MINUTE, LEAKS]
 }
 
 /// A leak, a minute, a standby, five minutes, and the leak again: the flush comes
 /// back, and it was to be done long ago.
 pub fn brought_back() -> Vec<Step> {
-    let mut steps = vec![REPORT_LEAK, MINUTE, REPORT_STANDBY];
+    let mut steps = vec![LEAKS, MINUTE, STANDS_BY];
     steps.extend([MINUTE; 5]);
-    steps.push(REPORT_LEAK);
+    steps.push(LEAKS);
     steps
 }
 

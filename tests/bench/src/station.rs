@@ -104,6 +104,14 @@ impl Tally {
         }
     }
 
+    /// Every number that came up, and whether an input or a step was answered with it.
+    pub fn numbers(&self) -> impl Iterator<Item = (&'static str, u8)> + '_ {
+        self.counts.keys().map(|shown| match *shown {
+            Shown::Refusal(number) => ("input", number),
+            Shown::Answer(number) => ("step", number),
+        })
+    }
+
     /// What the station can show and no input did.
     pub fn missing(&self) -> Vec<Shown> {
         let all = wanted().into_iter();
@@ -168,6 +176,20 @@ pub fn run(
 #[cfg(test)]
 mod tests {
     use super::*;
+    use crate::never::fault;
+
+    #[test]
+    fn an_input_and_a_step_that_are_answered_9_are_noticed() {
+        // Two steps, and the record of one event; then a refusal of the whole.
+        let outputs = [[&[0, 9][..], &[0; 12]].concat(), vec![9]];
+        for shown in outputs.map(|output| shown(&[2], &output)) {
+            let mut tally = Tally::default();
+            tally.add(wanted());
+            assert!(fault(tally.numbers()).is_none());
+            tally.add(shown);
+            assert!(fault(tally.numbers()).is_some());
+        }
+    }
 
     #[test]
     fn pieces_are_the_whole_input() {

@@ -7,8 +7,7 @@ use second::case::Case;
 pub fn turned(case: &Case) -> Option<Case> {
     let mut turned = case.clone();
     match &mut turned {
-        Case::Request { pair, .. }
-        | Case::Report { pair, .. }
+        Case::Happen { pair, .. }
         | Case::GuardedTick { pair }
         | Case::Remedies { pair, .. }
         | Case::Run { pair, .. }

@@ -95,8 +95,7 @@ pub fn payload(case: &Case) -> Vec<u8> {
         }
         Case::Size { set } | Case::Lowest { set } => out.extend(set.to_le_bytes()),
         Case::Enabled { pair, event }
-        | Case::Request { pair, event }
-        | Case::Report { pair, event }
+        | Case::Happen { pair, event }
         | Case::HoldUp { pair, event } => {
             put_pair(&mut out, pair);
             put_number(&mut out, *event);

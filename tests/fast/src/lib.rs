@@ -7,7 +7,6 @@
 
 #![forbid(unsafe_code)]
 
-mod ask;
 mod carry;
 mod chain;
 mod check;
@@ -16,6 +15,7 @@ mod effect;
 mod enabled;
 mod flags;
 mod guarded;
+mod happen;
 mod image;
 mod judge;
 mod process;
@@ -25,13 +25,13 @@ mod survey;
 mod time;
 mod trace;
 
-pub use ask::{report, request};
 pub use carry::carry_marking;
 pub use chain::chain;
 pub use check::{check, closure, Closure, Verdict};
 pub use decoded::{Marking, Record, Relation, Table};
 pub use enabled::{enabled, hold_up, margin, HoldUp, Margin, Rest};
 pub use guarded::{guarded_tick, Guarded};
+pub use happen::happen;
 pub use image::{fresh, read_marking, read_table, write_marking, write_table};
 pub use judge::{judge_marking, judge_table};
 pub use remedies::{remedies, Remedy};

@@ -8,12 +8,9 @@ use crate::process::Process;
 use crate::state::State;
 
 #[inline]
-fn ask(p: &Process, state: &mut State, event: u8, controllable: bool) -> u8 {
+fn happen(p: &Process, state: &mut State, event: u8) -> u8 {
     if usize::from(event) >= p.table.events {
         return 8;
-    }
-    if (p.table.controllable & only(event) != 0) != controllable {
-        return 9;
     }
     if !state.enabled(p, event) {
         return 10;
@@ -55,8 +52,7 @@ fn play(p: &Process, m: &mut Marking, steps: &[u8], answers: &mut [u8]) {
     let mut accepted = false;
     for (step, answer) in steps.chunks_exact(2).zip(answers) {
         *answer = match (step[0], step[1]) {
-            (0, event) => ask(p, &mut state, event, true),
-            (1, event) => ask(p, &mut state, event, false),
+            (0 | 1, event) => happen(p, &mut state, event),
             (2, 0) => plain_tick(&mut state),
             (3, 0) => {
                 // Once the check accepts it goes on accepting, whatever the steps.

@@ -180,14 +180,9 @@ fn answer(case: &Case) -> Option<Answer> {
             let (t, m) = decoded(pair);
             set(fast::due(&t, &m))
         }
-        Case::Request { pair, event } => {
+        Case::Happen { pair, event } => {
             let (t, mut m) = decoded(pair);
-            let number = fast::request(&t, &mut m, *event);
-            Answer::Marking(moved(number, &m))
-        }
-        Case::Report { pair, event } => {
-            let (t, mut m) = decoded(pair);
-            let number = fast::report(&t, &mut m, *event);
+            let number = fast::happen(&t, &mut m, *event);
             Answer::Marking(moved(number, &m))
         }
         Case::PlainTick { pair } => {
@@ -342,7 +337,7 @@ fn cases_at_the_limits_agree() {
             }
         }
     }
-    assert_eq!(asked.len(), 22);
+    assert_eq!(asked.len(), 21);
 }
 
 /// Firm decides in so many random cases of a call, or more; that of a firm table and
@@ -360,8 +355,7 @@ fn firm_decides(case: fn(&mut Rng) -> Case, times: usize) {
 
 #[test]
 fn firm_tables_and_others_agree() {
-    firm_decides(generate::request_case, 1000);
-    firm_decides(generate::report_case, 1000);
+    firm_decides(generate::happen_case, 1000);
     firm_decides(generate::guarded_tick_case, 500);
     firm_decides(generate::remedies_case, 100);
     firm_decides(generate::run_bytes_case, 1000);
@@ -459,8 +453,8 @@ fn random_traces_agree() {
             }
         }
     }
-    told.shows(0, &[0, 8, 9, 10], 1000);
-    told.shows(1, &[0, 8, 9, 10], 1000);
+    told.shows(0, &[0, 8, 10], 1000);
+    told.shows(1, &[0, 8, 10], 1000);
     told.shows(2, &[0, 11, 15], 1000);
     told.shows(3, &[0, 12, 15], 1000);
 }
@@ -493,16 +487,16 @@ fn rejected_for_a_while(rng: &mut Rng) -> Option<Pair> {
 }
 
 /// Steps that a process of so many events might be asked for, mostly guarded ticks and
-/// events by the act that fits them.
-fn many_steps(rng: &mut Rng, t: &second::Table) -> Vec<Step> {
+/// events that happen.
+fn many_steps(rng: &mut Rng, events: usize) -> Vec<Step> {
     let step = |rng: &mut Rng| {
-        let event = rng.below(t.events);
+        let event = rng.below(events) as u8;
         match rng.below(10) {
             0..=3 => Step { kind: 3, event: 0 },
             4 => Step { kind: 2, event: 0 },
-            _ => Step {
-                kind: u8::from(t.controllable & bit(event) == 0),
-                event: event as u8,
+            of_an_event => Step {
+                kind: of_an_event as u8 % 2,
+                event,
             },
         }
     };
@@ -527,7 +521,7 @@ fn traces_in_which_the_check_comes_to_accept_agree() {
         let Some(pair) = rejected_for_a_while(&mut rng) else {
             continue;
         };
-        let steps = many_steps(&mut rng, &pair.table);
+        let steps = many_steps(&mut rng, pair.table.events);
         let answers = vec![7; steps.len()];
         let case = Case::Run {
             pair,

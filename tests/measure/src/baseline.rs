@@ -230,16 +230,9 @@ impl Calls for Baseline {
         })
     }
 
-    fn request(&self, table: &[u8], marking: &[u8], times: usize) -> u64 {
+    fn happen(&self, table: &[u8], marking: &[u8], last: usize, times: usize) -> u64 {
         turns(table, marking, times, |t, m, sum| {
-            let number = fast::request(t, m, below(t.events, sum));
-            taken_marking(sum, number, m)
-        })
-    }
-
-    fn report(&self, table: &[u8], marking: &[u8], last: usize, times: usize) -> u64 {
-        turns(table, marking, times, |t, m, sum| {
-            let number = fast::report(t, m, last);
+            let number = fast::happen(t, m, last);
             taken_marking(sum, number, m)
         })
     }

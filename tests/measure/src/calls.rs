@@ -26,8 +26,7 @@ pub trait Calls {
     ) -> u64;
     fn margin(&self, table: &[u8], marking: &[u8], times: usize) -> u64;
     fn due(&self, table: &[u8], marking: &[u8], times: usize) -> u64;
-    fn request(&self, table: &[u8], marking: &[u8], times: usize) -> u64;
-    fn report(&self, table: &[u8], marking: &[u8], last: usize, times: usize) -> u64;
+    fn happen(&self, table: &[u8], marking: &[u8], last: usize, times: usize) -> u64;
     fn plain_tick(&self, table: &[u8], marking: &[u8], times: usize) -> u64;
     fn closure(&self, table: &[u8], marking: &[u8], times: usize) -> u64;
     fn check(&self, table: &[u8], marking: &[u8], times: usize) -> u64;

@@ -105,7 +105,7 @@ pub struct Case {
     pub run: fn(&mut Input, &dyn Calls, usize) -> u64,
 }
 
-pub const CASES: [Case; 28] = [
+pub const CASES: [Case; 27] = [
     case("read_table", |i, side, n| side.read_table(&mut i.table, n)),
     case("write_table", |i, side, n| {
         side.write_table(&i.table, &mut i.buffer, n)
@@ -140,9 +140,8 @@ pub const CASES: [Case; 28] = [
         side.margin(&i.waiting, &i.away, n)
     }),
     case("due", |i, side, n| side.due(&i.table, &i.quiet, n)),
-    case("request", |i, side, n| side.request(&i.table, &i.quiet, n)),
-    case("report", |i, side, n| {
-        side.report(&i.table, &i.quiet, i.size.events - 1, n)
+    case("happen", |i, side, n| {
+        side.happen(&i.table, &i.quiet, i.size.events - 1, n)
     }),
     case("plain_tick", |i, side, n| {
         side.plain_tick(&i.table, &i.quiet, n)

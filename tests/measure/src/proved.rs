@@ -41,8 +41,7 @@ extern "C" {
     ) -> u64;
     fn timing_margin(t: *const u8, tn: usize, m: *const u8, mn: usize, times: usize) -> u64;
     fn timing_due(t: *const u8, tn: usize, m: *const u8, mn: usize, times: usize) -> u64;
-    fn timing_request(t: *const u8, tn: usize, m: *const u8, mn: usize, times: usize) -> u64;
-    fn timing_report(
+    fn timing_happen(
         t: *const u8,
         tn: usize,
         m: *const u8,
@@ -101,7 +100,6 @@ impl Calls for Proved {
     of_pair!(hold_up, timing_hold_up);
     of_pair!(margin, timing_margin);
     of_pair!(due, timing_due);
-    of_pair!(request, timing_request);
     of_pair!(plain_tick, timing_plain_tick);
     of_pair!(closure, timing_closure);
     of_pair!(check, timing_check);
@@ -156,8 +154,8 @@ impl Calls for Proved {
         }
     }
 
-    fn report(&self, t: &[u8], m: &[u8], last: usize, times: usize) -> u64 {
-        unsafe { timing_report(t.as_ptr(), t.len(), m.as_ptr(), m.len(), last, times) }
+    fn happen(&self, t: &[u8], m: &[u8], last: usize, times: usize) -> u64 {
+        unsafe { timing_happen(t.as_ptr(), t.len(), m.as_ptr(), m.len(), last, times) }
     }
 
     fn guarded_tick(&self, t: &[u8], m: &[u8], times: usize) -> u64 {

@@ -172,8 +172,8 @@ pub fn two_due(size: Size) -> Marking {
 pub const PREFERRED: [u8; 3] = [1, 1, 1];
 pub const FALLBACK: [u8; 3] = [1, 1, 0];
 
-/// Of 16 steps 12 are guarded ticks; there is a report of the last event, two
-/// requests, and a plain tick.
+/// Of 16 steps 12 are guarded ticks; the last event happens, and two others, and there
+/// is a plain tick.
 pub fn steps(size: Size, count: usize) -> Vec<u8> {
     let step = |n: usize| match n % 16 {
         0 => [1, size.events as u8 - 1],
@@ -184,8 +184,8 @@ pub fn steps(size: Size, count: usize) -> Vec<u8> {
     (0..count).flat_map(step).collect()
 }
 
-/// The same with a report of the last event at every fourth step: it has event 0 as
-/// response, which is then still to be done.
+/// The same with the last event at every fourth step: it has event 0 as response, which
+/// is then still to be done.
 pub fn repeats(size: Size, count: usize) -> Vec<u8> {
     let mut steps = steps(size, count);
     for step in steps.chunks_exact_mut(2).step_by(4) {
@@ -199,8 +199,8 @@ mod tests {
     use super::*;
     use crate::cases::{GROWING, SIZES};
     use second::{
-        chain as whole_chain, check, enabled, guarded_tick, hold_up, margin, remedies, report,
-        request, run_bytes, HoldUpAnswer, MarginAnswer, Rest,
+        chain as whole_chain, check, enabled, guarded_tick, happen, hold_up, margin, remedies,
+        run_bytes, HoldUpAnswer, MarginAnswer, Rest,
     };
 
     #[test]
@@ -242,17 +242,12 @@ mod tests {
     }
 
     #[test]
-    fn every_event_is_enabled_and_can_be_asked_for() {
+    fn every_event_is_enabled_and_can_happen() {
         for size in SIZES {
             let (t, m) = (table(size), quiet(size));
             for event in 0..size.events {
                 assert!(enabled(&t, &m, event).enabled);
-                let asked = if event + 1 < size.events {
-                    request
-                } else {
-                    report
-                };
-                assert_eq!(asked(&t, &m, event).number, 0);
+                assert_eq!(happen(&t, &m, event).number, 0);
             }
         }
     }

@@ -1,9 +1,10 @@
 //! `boundary --program WORD.. --cases N --seed S` sends N random questions over
 //! images and plain numbers to one run of the program (`tests/boundary/answers.c`).
-//! It exits 0 if every answer agrees, 1 at the first that differs, 2 if nothing
-//! was compared or some number did not come up.
+//! It exits 0 if every answer agrees, 1 at the first that differs or if a number came
+//! up that is given no more, 2 if nothing was compared or some number did not come up.
 
 use bench::boundary::{missing, run};
+use bench::never::agreed;
 use std::process::ExitCode;
 
 const USAGE: &str = "usage: boundary --program WORD.. --cases N --seed S";
@@ -25,14 +26,11 @@ fn report(program: &[String], cases: usize, seed: u64) -> std::io::Result<(Strin
             let report = format!("{difference:#?}\nboundary: the answers differ, seed {seed}");
             (report, 1)
         }
-        Ok(seen) if !missing(&seen).is_empty() => {
-            let missing = missing(&seen);
-            (
-                format!("boundary: not compared: no case gives {missing:?}"),
-                2,
-            )
+        Ok(seen) => {
+            let numbers = seen.iter().copied();
+            let agree = format!("{cases} cases agree");
+            agreed("boundary", seed, numbers, &missing(&seen), agree)
         }
-        Ok(_) => (format!("boundary: {cases} cases agree, seed {seed}"), 0),
     })
 }
 

@@ -33,29 +33,11 @@ fn at_each_count(pair: fn() -> Pair) -> impl Iterator<Item = Pair> {
 /// that those behind them have happened.
 const ASKED: [usize; 3] = [0, 40, 63];
 
-pub fn requests() -> Vec<Case> {
+pub fn happens() -> Vec<Case> {
     let pairs = at_each_count(full::quiet).chain(at_each_count(full::all_due));
     pairs
         .flat_map(|pair| {
-            ASKED.map(|event| Case::Request {
-                pair: pair.clone(),
-                event,
-            })
-        })
-        .collect()
-}
-
-fn uncontrollable(mut pair: Pair) -> Pair {
-    pair.table.controllable = 0;
-    pair
-}
-
-pub fn reports() -> Vec<Case> {
-    let pairs = at_each_count(full::quiet).chain(at_each_count(full::all_due));
-    pairs
-        .map(uncontrollable)
-        .flat_map(|pair| {
-            ASKED.map(|event| Case::Report {
+            ASKED.map(|event| Case::Happen {
                 pair: pair.clone(),
                 event,
             })
@@ -78,8 +60,8 @@ pub fn guarded_ticks() -> Vec<Case> {
         .collect()
 }
 
-/// Over the hold within one trace: the last event twice by request, all events
-/// by a guarded tick, the last once more, and steps that execute nothing.
+/// Over the hold within one trace: the last event twice by itself, all events by a
+/// guarded tick, the last twice more, and steps that execute nothing.
 pub fn traces() -> impl Iterator<Item = (Pair, Vec<Step>)> {
     let steps = [(0, 63), (0, 63), (3, 0), (1, 63), (2, 0), (0, 63), (9, 9)];
     let steps = steps.map(|(kind, event)| Step { kind, event });
@@ -143,10 +125,7 @@ mod tests {
         for case in cases {
             let before = *case.pair().expect("of a pair").marking;
             let (after, events) = match (&case, case.answer()) {
-                (Case::Request { event, .. }, Answer::Marking(done))
-                | (Case::Report { event, .. }, Answer::Marking(done))
-                    if done.number == 0 =>
-                {
+                (Case::Happen { event, .. }, Answer::Marking(done)) if done.number == 0 => {
                     (done.marking, vec![*event])
                 }
                 (_, Answer::Guarded(done)) => {
@@ -166,8 +145,7 @@ mod tests {
     #[test]
     fn each_count_is_added_to_in_each_way() {
         let expected = COUNTS.map(|count| (count, count.saturating_add(1)));
-        assert_eq!(executed(requests()), expected);
-        assert_eq!(executed(reports()), expected);
+        assert_eq!(executed(happens()), expected);
         assert_eq!(executed(guarded_ticks()), expected);
     }
 
@@ -191,7 +169,7 @@ mod tests {
             let end = second::run(&pair.table, &pair.marking, &steps, &mut answers);
             assert_eq!((end.number, answers[0], answers[6]), (0, 0, 15));
             let start = pair.marking.records[63].count;
-            let least = start.saturating_add(3);
+            let least = start.saturating_add(4);
             assert!(end.marking.records[63].count >= least);
         }
     }

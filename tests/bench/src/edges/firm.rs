@@ -119,7 +119,7 @@ fn had(record: Record, had: Option<Deadline>) -> Record {
 impl Meeting {
     /// Every event is causable and nothing blocks any, so the check accepts. The
     /// other events have duties of their own, which stay.
-    fn pair(&self, controllable: bool) -> Pair {
+    fn pair(&self) -> Pair {
         let events = if self.executed.max(self.target) < SMALL {
             SMALL
         } else {
@@ -127,7 +127,7 @@ impl Meeting {
         };
         let mut table = table(events, 0);
         table.causable = u64::MAX;
-        table.controllable = if controllable { u64::MAX } else { 0 };
+        table.controllable = u64::MAX;
         table.firm = self.firm;
         for given in self.given {
             table.relations[table.count] = relation(2, self.executed, self.target, *given);
@@ -148,24 +148,16 @@ impl Meeting {
 
     /// Where the executed event is due, so that a guarded tick causes it.
     fn due(&self) -> Pair {
-        let mut pair = self.pair(true);
+        let mut pair = self.pair();
         let executed = &mut pair.marking.records[self.executed];
         *executed = had(*executed, Some(Some(0)));
         pair
     }
 }
 
-pub fn requests() -> Vec<Case> {
-    let of = |meeting: Meeting| Case::Request {
-        pair: meeting.pair(true),
-        event: meeting.executed,
-    };
-    meetings().into_iter().map(of).collect()
-}
-
-pub fn reports() -> Vec<Case> {
-    let of = |meeting: Meeting| Case::Report {
-        pair: meeting.pair(false),
+pub fn happens() -> Vec<Case> {
+    let of = |meeting: Meeting| Case::Happen {
+        pair: meeting.pair(),
         event: meeting.executed,
     };
     meetings().into_iter().map(of).collect()
@@ -188,7 +180,7 @@ pub fn remedies() -> Vec<Case> {
         let both = vec![meeting.executed as u8, meeting.target as u8];
         for fallback in [preferred.clone(), both] {
             cases.push(Case::Remedies {
-                pair: meeting.pair(true),
+                pair: meeting.pair(),
                 preferred: preferred.clone(),
                 fallback,
             });
@@ -203,12 +195,10 @@ pub fn traces() -> Vec<(Pair, Vec<Step>)> {
     let tick = |kind: u8| Step { kind, event: 0 };
     let mut all = Vec::new();
     for meeting in meetings() {
-        let ask = Step {
-            kind: 0,
-            event: meeting.executed as u8,
-        };
-        let steps = vec![ask, ask, tick(2), ask, tick(3), ask, tick(3)];
-        all.push((meeting.pair(true), steps));
+        let event = meeting.executed as u8;
+        let [one, other] = [0, 1].map(|kind| Step { kind, event });
+        let steps = vec![one, other, tick(2), one, tick(3), other, tick(3)];
+        all.push((meeting.pair(), steps));
     }
     for firm in [false, true] {
         for start in [shop::repeated(), shop::brought_back()] {
@@ -225,7 +215,7 @@ mod tests {
     use crate::turned::turned;
     use second::case::Answer;
 
-    /// What the target has once the event was executed, by request.
+    /// What the target has once the event has happened.
     fn has(had: Option<Deadline>, given: &'static [Deadline], firm: bool) -> Option<Deadline> {
         let (executed, target) = (0, 1);
         met(Meeting {
@@ -239,8 +229,8 @@ mod tests {
     }
 
     fn met(meeting: Meeting) -> Option<Deadline> {
-        let pair = meeting.pair(true);
-        let done = second::request(&pair.table, &pair.marking, meeting.executed);
+        let pair = meeting.pair();
+        let done = second::happen(&pair.table, &pair.marking, meeting.executed);
         assert_eq!(done.number, 0);
         let record = done.marking.records[meeting.target];
         record
@@ -288,8 +278,7 @@ mod tests {
 
     #[test]
     fn firm_decides_in_each_way_of_executing() {
-        assert!(decided(requests()) > 200);
-        assert!(decided(reports()) > 200);
+        assert!(decided(happens()) > 200);
         assert!(decided(guarded_ticks()) > 200);
         assert!(decided(remedies()) > 100);
         assert!(decided(super::super::run()) > 200);

@@ -1,4 +1,4 @@
-//! Request and report.
+//! An event happens: whatever its class, it is executed if enabled.
 
 use crate::decoded::{only, Marking, Relation, Table};
 use crate::effect::execute;
@@ -22,15 +22,11 @@ fn unless_stopped<'a>(own: impl Iterator<Item = &'a Relation>, m: &Marking) -> O
     Some(leads)
 }
 
-#[inline]
-fn ask(t: &Table, m: &mut Marking, event: usize, controllable: bool) -> u8 {
+pub fn happen(t: &Table, m: &mut Marking, event: usize) -> u8 {
     if let Err(number) = judge_event(t, m, event) {
         return number;
     }
     let event = event as u8;
-    if (t.controllable & only(event) != 0) != controllable {
-        return 9;
-    }
     if !m.of(event).included {
         return 10;
     }
@@ -40,12 +36,4 @@ fn ask(t: &Table, m: &mut Marking, event: usize, controllable: bool) -> u8 {
     };
     execute(m, event, leads, own, t.firm);
     0
-}
-
-pub fn request(t: &Table, m: &mut Marking, event: usize) -> u8 {
-    ask(t, m, event, true)
-}
-
-pub fn report(t: &Table, m: &mut Marking, event: usize) -> u8 {
-    ask(t, m, event, false)
 }
