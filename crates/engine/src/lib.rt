@@ -1,6 +1,5 @@
 // The engine's public calls. Each judges the decoded table, then the marking, then its own numbers, and promises its definition in the
 // crate `rules`, whole.
-mod happening;
 mod heard;
 mod refusing;
 mod remedy;
@@ -9,6 +8,7 @@ mod trace;
 use acts::derived;
 use acts::enabling;
 use acts::event_set;
+use acts::happen;
 use acts::laid;
 use acts::time;
 use acts::waiting;
@@ -90,13 +90,31 @@ pub fn due(t: Table, m: Marking) -> SetAnswer
     SetAnswer { number, set: 0 }
 }
 
-// An event happens: whatever its class, it is executed, if enabled.
+// An event happens: whatever its class, it is executed, if it exists and is enabled. Only its own row and links are made.
 pub fn happen(t: Table, m: Marking, event: usize) -> MarkingAnswer
     ensures { λ r. ⌜ r ≡ happen t m event ⌝ }
 {
-    let number = judging::then_marking(image::judge_table(t), t.events, m);
+    let judged = judging::then_marking(image::judge_table(t), t.events, m);
+    if judged != 0 {
+        return MarkingAnswer {
+            number: judged,
+            marking: m,
+        };
+    }
+    let mut row = [0; 10];
+    let mut links = [0; 256];
+    let mut sets = [0; 4];
+    let mut columns = [0; 192];
+    derived::own(t, event, &mut row, &mut links);
+    laid::lay(m, &mut sets, &mut columns);
+    let head = derived::head_of(t.controllable, t.causable, t.events, t.firm);
+    let number = happen::happen(&row, 0, &links, head, 0, &mut sets, &mut columns, event);
     if number == 0 {
-        return happening::happened(t, m, event);
+        let executed = laid::give(m, 0, &sets, &columns);
+        return MarkingAnswer {
+            number: 0,
+            marking: executed,
+        };
     }
     MarkingAnswer { number, marking: m }
 }
