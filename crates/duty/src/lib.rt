@@ -11,7 +11,6 @@ mod recording;
 mod tabling;
 mod telling;
 
-use acting::Act;
 use rules::Marking;
 ghost use mathlib.Core.Path.{_≡_};
 ghost use mathlib.Core.List.{_++_};
@@ -225,7 +224,13 @@ pub extern "C" fn duty_happen(table: &[u8], marking: &mut [u8], event: usize) ->
         ≡ (imagesNumber (now (table .entry)) (now (marking .entry)) else on happen (now (table .entry)) (now (marking .entry)) event .number) ⌝ }
     ensures marking { λ r. ⌜ now (marking .exit) ≡ putBack r (on happen (now (table .entry)) (now (marking .entry)) event .marking) (now (marking .entry)) ⌝ }
 {
-    acting::perform(table, marking, Act::Happen(event))
+    let read = images::read(table, &marking[..]);
+    let t = read.table;
+    let m = read.marking;
+    if read.number == 0 {
+        return acting::put_back(engine::happen(t, m, event), marking);
+    }
+    read.number
 }
 
 // One tick passes, unless an event is due.
@@ -235,7 +240,13 @@ pub extern "C" fn duty_plain_tick(table: &[u8], marking: &mut [u8]) -> u8
         ≡ (imagesNumber (now (table .entry)) (now (marking .entry)) else on plainTick (now (table .entry)) (now (marking .entry)) .number) ⌝ }
     ensures marking { λ r. ⌜ now (marking .exit) ≡ putBack r (on plainTick (now (table .entry)) (now (marking .entry)) .marking) (now (marking .entry)) ⌝ }
 {
-    acting::perform(table, marking, Act::PlainTick)
+    let read = images::read(table, &marking[..]);
+    let t = read.table;
+    let m = read.marking;
+    if read.number == 0 {
+        return acting::put_back(engine::plain_tick(t, m), marking);
+    }
+    read.number
 }
 
 // The margin of a condition: its kind, and the ticks.

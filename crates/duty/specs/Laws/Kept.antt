@@ -27,9 +27,7 @@ use Rattle.rules.specs.Laws.Written.{number-done, bytes-written}
 use Rattle.rules.specs.Laws.Trace.{guarded-judged, end-judged}
 use Rattle.rules.specs.Demand3.Facts.{effect-judged, time-judged}
 use Rattle.image.specs.Theorems.{fresh-accepted}
-use Rattle.duty.specs.declared.acting.Act.{Act}
-use Rattle.duty.specs.declared.acting.Act.the-variants.{Happen, PlainTick}
-use Rattle.duty.specs.Performing.{acted, Fills}
+use Rattle.duty.specs.Performing.{Fills}
 use Rattle.duty.specs.Laws.Images.{marking-long}
 
 -- done or not, if both are
@@ -41,17 +39,13 @@ either t number after before p q = go (eqb number 0)
     go false = q
 
 module _ (t : Table) (m : Marking) (h : judged t m ≡ 0) where
-  happen-judged : (e : ℕ) → judged t (happen t m e .marking) ≡ 0
+  pub happen-judged : (e : ℕ) → judged t (happen t m e .marking) ≡ 0
   unfolding happen
   happen-judged e = either t (judged t m else happenNumber t m e) (effect t m e) m (effect-judged t m e h) h
 
-  plain-tick-judged : judged t (plainTick t m .marking) ≡ 0
+  pub plain-tick-judged : judged t (plainTick t m .marking) ≡ 0
   unfolding plainTick
   plain-tick-judged = either t (judged t m else plainTickNumber m) (time m) m (time-judged t m h) h
-
-  pub act-judged : (a : Act) → judged t (acted a t m .marking) ≡ 0
-  act-judged (Happen e) = happen-judged e
-  act-judged PlainTick = plain-tick-judged
 
   pub guarded-tick-judged : judged t (guardedTick t m .marking) ≡ 0
   unfolding guardedTick
