@@ -44,24 +44,13 @@ mod tests {
 
     #[test]
     fn a_run_fails_by_what_came_up_and_else_by_what_did_not() {
-        for (number, missing, line, code) in [
-            (
-                9,
-                &[8][..],
-                "a number came up that is given no more: [(\"happen\", 9)]",
-                1,
-            ),
-            (10, &[8], "not compared: nothing gives [8]", 2),
-            (10, &[], "5 agree", 0),
-        ] {
-            let ended = agreed(
-                "bench",
-                3,
-                [("happen", number)],
-                missing,
-                "5 agree".to_string(),
-            );
-            assert_eq!(ended, (format!("bench: {line}, seed 3"), code));
-        }
+        let ended = |number: u8, missing: &[u8]| {
+            let agree = "5 agree".to_string();
+            agreed("bench", 3, [("happen", number)], missing, agree)
+        };
+        let fault = fault([("happen", 9)]).expect("9 is given no more");
+        assert_eq!(ended(9, &[8]), (format!("bench: {fault}, seed 3"), 1));
+        assert_eq!(ended(10, &[8]).1, 2);
+        assert_eq!(ended(10, &[]), ("bench: 5 agree, seed 3".to_string(), 0));
     }
 }
