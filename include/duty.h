@@ -111,7 +111,7 @@ enum duty_kind {
 
 /* The bits of a class byte: both, one or neither. */
 enum duty_class_bit {
-    DUTY_CONTROLLABLE = 0x80,   /* it may be excluded, and may wait: any other event that can be or does is reason 1 of the check */
+    DUTY_CONTROLLABLE = 0x80,   /* an operator or a controller decides whether it happens; any other event is only seen (reason 1 of the check) */
     DUTY_CAUSABLE = 0x40        /* a guarded tick or an offered remedy may execute it */
 };
 
