@@ -51,7 +51,7 @@
  * one call recurses: duty_chain, one visit within another for each event at most, 64, and one more that finds its event open. All of them are
  * counted.
  *     duty_run 24,032             duty_guarded_tick 23,056  duty_check 19,088       duty_happen 18,928
- *     duty_margin 17,968          duty_chain 16,816         duty_plain_tick 16,656  duty_closure 16,432
+ *     duty_margin 17,968          duty_chain 16,816         duty_plain_tick 16,672  duty_closure 16,432
  *     duty_enabled 15,888         duty_hold_up 15,888       duty_due 14,608         duty_remedies 14,360
  *     duty_record 12,752          duty_judge 11,680         duty_relation 8,528     duty_class 6,416
  *     duty_firm 6,400             duty_write_table 4,464    duty_fresh 4,208        duty_carry 3,184

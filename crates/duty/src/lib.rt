@@ -227,10 +227,7 @@ pub extern "C" fn duty_happen(table: &[u8], marking: &mut [u8], event: usize) ->
     let read = images::read(table, &marking[..]);
     let t = read.table;
     let m = read.marking;
-    if read.number == 0 {
-        return acting::put_back(engine::happen(t, m, event), marking);
-    }
-    read.number
+    acting::put_back_read(read.number, engine::happen(t, m, event), marking)
 }
 
 // One tick passes, unless an event is due.
@@ -243,10 +240,7 @@ pub extern "C" fn duty_plain_tick(table: &[u8], marking: &mut [u8]) -> u8
     let read = images::read(table, &marking[..]);
     let t = read.table;
     let m = read.marking;
-    if read.number == 0 {
-        return acting::put_back(engine::plain_tick(t, m), marking);
-    }
-    read.number
+    acting::put_back_read(read.number, engine::plain_tick(t, m), marking)
 }
 
 // The margin of a condition: its kind, and the ticks.

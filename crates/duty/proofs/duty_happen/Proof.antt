@@ -1,34 +1,18 @@
--- The event happens to what was read, and the marking after it fills the buffer; a refused reading leaves it. Assumes nothing.
-use mathlib.Core.Path.{_≡_}
-use Rattle.rules.specs.declared.Table.{Table}
-use Rattle.rules.specs.declared.Marking.{Marking}
-use Rattle.rules.specs.declared.MarkingAnswer.{MarkingAnswer}
+-- The event happens to what was read, and the answer is put back. Assumes nothing.
+use Prim.Native.Nat.{ℕ}
 use Rattle.rules.specs.Happen.{happen}
-use Rattle.rules.specs.Images.{on}
 use Rattle.duty.specs.Laws.Kept.{happen-judged}
-use Rattle.duty.specs.Laws.Answered.{left, unread, ruled, answer-fills, answered}
+use Rattle.duty.specs.Laws.Answered.{read-fills, put-back-told}
 use borrow.Author.Needs.{needs}
 use Rattle.duty.proofs.duty_happen.Statement.{statement}
 use Rattle.duty.proofs.duty_happen.Tie as tie
 
--- The places that the proof looks back to, each from a later one: where the call begins, where the images are read, and where the engine has
--- answered.
-abbrev start : tie.After-read → tie.Start
-start c = c .before .before .before .before
-
-abbrev reading : tie.After-struct-known → tie.After-read
+-- from where the engine has answered: where the images are read, and the event that was handed in
+abbrev reading : tie.After-happen → tie.After-read
 reading c = c .before .before .before
 
-abbrev answer-at : tie.After-slice-known2 → tie.After-happen
-answer-at c = c .before .before .before .before
-
--- where the call begins, from where the images are read and known
-abbrev beginning : tie.After-struct-known → tie.Start
-beginning c = start (reading c)
-
--- the rule, of the event that was handed in
-abbrev rule : tie.Start → Table → Marking → MarkingAnswer
-rule s t m = happen t m (s .args .event)
+abbrev event : tie.After-happen → ℕ
+event c = reading c .before .before .before .before .args .event
 
 read-requires : tie.Need-read-requires
 read-requires c κs = search needs
@@ -36,45 +20,20 @@ read-requires c κs = search needs
 happen-requires : tie.Need-happen-requires
 happen-requires c κs = search needs
 
--- the answer is the rule's of the images
-ruled-by : (c : tie.After-happen) → let s = beginning (c .before .before) in
-    c .happen .result ≡ on (rule s) (s .args .table .now) (s .args .marking .now)
-ruled-by c =
-    let at = c .before .before in
-    ruled _ _ _ (reading at .read .ensures) (rule (beginning at)) _ (c .happen .ensures)
-
-put-back-requires : tie.Need-put-back-requires
-put-back-requires c κs =
-    let at = c .before .before .before in
-    let s = beginning at in
-    answer-fills _ _ _ (reading at .read .ensures) (c .before .before .if1 .taken) (rule s) (λ (r : MarkingAnswer). r .marking) _ (ruled-by (c .before))
-    (λ t m h. happen-judged t m h (s .args .event))
+put-back-read-requires : tie.Need-put-back-read-requires
+put-back-read-requires c κs =
+    let at = c .before in
+    read-fills _ _ _ (reading at .read .ensures) (λ t m. happen t m (event at)) (at .happen .ensures) (λ t m h. happen-judged t m h (event at))
 
 same-length : tie.Need-same-length
 same-length c = search needs
 
 returns : tie.Need-returns
 returns c =
-    let at = answer-at c in
-    let put = c .before .before .put-back in
-    answered _ _ _ (reading (at .before .before) .read .ensures) (at .before .if1 .taken) _ _ (ruled-by at) (put .result) _ (put .ensures .0) (put .ensures .1)
-
-same-length-2 : tie.Need-same-length-2
-same-length-2 c = search needs
-
-returns-2 : tie.Need-returns-2
-returns-2 c =
-    let read = reading (c .before) .read in
-    (unread _ _ _ (read .ensures) _ (c .if1 .left), left (read .result .number) _ _ (c .if1 .left))
+    let put = c .before .before in
+    let at = put .before .before in
+    put-back-told _ _ _ (reading at .read .ensures) (λ t m. happen t m (event at)) (at .happen .ensures)
+    (put .put-back-read .ensures .0) (put .put-back-read .ensures .1)
 
 pub duty-happen-spec : {M : Type 1} → statement M
-duty-happen-spec =
-    tie.close
-    (tie.spec
-    read-requires
-    happen-requires
-    put-back-requires
-    same-length
-    returns
-    same-length-2
-    returns-2)
+duty-happen-spec = tie.close (tie.spec read-requires happen-requires put-back-read-requires same-length returns)

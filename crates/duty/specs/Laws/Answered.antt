@@ -77,3 +77,19 @@ module _ (table marking : List ℕ) (read : Images) (read-is : read ≡ images t
       n ∙ ap (λ (a : MarkingAnswer). a .number) by ∙ own-number (told .number),
       p ∙ rw (← n) (ap (λ (a : MarkingAnswer). putBack number (a .marking) marking) by),
     )
+
+-- an answer behind the reading: where that is done its marking fills the buffer, and it is put back
+module _ (table marking : List ℕ) (read : Images) (read-is : read ≡ images table marking) (rule : Table → Marking → MarkingAnswer)
+    {answer : MarkingAnswer} (e : answer ≡ rule (read .table) (read .marking)) where
+  by : answer ≡ on rule table marking
+  by = ruled table marking read read-is rule answer e
+
+  pub read-fills : ((t : Table) (m : Marking) → judged t m ≡ 0 → judged t (rule t m .marking) ≡ 0) → read .number ≡ 0 → Fills (answer .marking) marking
+  read-fills keeps h = answer-fills table marking read read-is h rule (λ (a : MarkingAnswer). a .marking) answer by keeps
+
+  pub put-back-told : {number : ℕ} {put : List ℕ} → number ≡ (read .number else answer .number) → put ≡ putBack number (answer .marking) marking
+      → (number ≡ (imagesNumber table marking else on rule table marking .number)) × (put ≡ putBack number (on rule table marking .marking) marking)
+  put-back-told {number} n p = (
+    told-number table marking read read-is (λ (a : MarkingAnswer). a .number) by n,
+    p ∙ ap (λ (a : MarkingAnswer). putBack number (a .marking) marking) by,
+  )
