@@ -4,6 +4,8 @@
 // A read that is refused: its number, one byte. Else a record of the check before the first step, a record for each step, and the end
 // marking's image. Whether the whole trace is granted is the station's to say: here each step is played that is kept whole.
 // A failed read or write is not told: the account is then shorter than its input asks, and the reader sees that.
+#![tactic(auto)]
+
 mod part;
 mod record;
 mod step;

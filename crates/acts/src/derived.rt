@@ -35,7 +35,7 @@ pub const WAITS: usize = 9;
 
 // What a table says besides its relations. `firm` is a set too: the events whose dates no response moves out, which are all of a firm table, and
 // else none.
-#[derive(Drop)]
+#[derive(Clone, Copy)]
 pub struct Head {
     pub controllable: u64,
     pub causable: u64,

@@ -1,4 +1,6 @@
 // The first storey of the engine: one event and one minute. It is named by crates of the engine alone.
+#![tactic(auto)]
+
 pub mod acting;
 pub mod blocking;
 pub mod derived;

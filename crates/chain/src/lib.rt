@@ -1,4 +1,6 @@
 // The chain of an event: every relation that stands in its way, and how deep.
+#![tactic(auto)]
+
 mod listing;
 mod visiting;
 mod words;

@@ -12,7 +12,7 @@ use acts::event_set::has_event;
 use acts::word::adding;
 
 // The opened events, and how many links are noted.
-#[derive(Drop)]
+#[derive(Clone, Copy)]
 pub struct Walk {
     pub opened: u64,
     pub count: usize,

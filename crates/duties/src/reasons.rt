@@ -17,7 +17,7 @@ use rules::{CheckAnswer, Relation, Table};
 
 // What the words say of the check: it accepts; a reason lies with an event, its place; or it lies with a relation, whose place is still to be
 // looked for: of which kinds it is, from which events and to which.
-#[derive(Drop)]
+#[derive(Clone, Copy)]
 pub enum Finding {
     Accepts,
     Event(u8, usize),

@@ -21,7 +21,7 @@ use acts::{derived, happen, time};
 use rules::Step;
 
 // How a step ended: its number, the clock after it, and whether the check is known to accept.
-#[derive(Drop)]
+#[derive(Clone, Copy)]
 pub struct Stepped {
     pub number: u8,
     pub clock: u32,

@@ -7,7 +7,7 @@ ghost use Rattle.duty.specs.Making.{counts_number, classes_from, held as heldNum
 use rules::{Relation, Table};
 
 // The events of each class, or the number of a spare bit.
-#[derive(Drop)]
+#[derive(Clone, Copy)]
 pub struct Classes {
     pub number: u8,
     pub controllable: u64,

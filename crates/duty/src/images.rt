@@ -6,7 +6,7 @@ ghost use Rattle.duty.specs.Reading.{images};
 use rules::{Marking, Table};
 
 // What is read of them, and the number of reading them, 0 for done.
-#[derive(Drop)]
+#[derive(Clone, Copy)]
 pub struct Images {
     pub table: Table,
     pub marking: Marking,

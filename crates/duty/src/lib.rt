@@ -1,5 +1,7 @@
 // The calls that a monitor's firmware makes from C: byte images, lent buffers and numbers in, the number of the refusal out. `include/duty.h`
 // says in words what each promises.
+#![tactic(auto)]
+
 mod acting;
 mod asking;
 mod building;

@@ -1,5 +1,7 @@
 // The engine's public calls. Each judges the decoded table, then the marking, then its own numbers, and promises its definition in the
 // crate `rules`, whole.
+#![tactic(auto)]
+
 mod heard;
 mod refusing;
 mod remedy;
@@ -358,7 +360,7 @@ pub const LONGEST_OUTPUT: usize = heard::LONGEST_OUTPUT;
 
 // The first `count` bytes of the output are what the station writes; a refusal writes nothing. It is declared here and not with the other
 // answers, since the station names the engine alone.
-#[derive(Drop)]
+#[derive(Clone, Copy)]
 pub struct StationAnswer {
     pub number: u8,
     pub count: usize,

@@ -42,7 +42,7 @@ pub fn bytes_number(t: Table, m: Marking, bytes: usize, room: usize) -> u8
 
 // How a run stands: the marking, whether the check is known to accept it, the answer to the last step, the number of the whole trace, and
 // how many of its steps are run.
-#[derive(Drop)]
+#[derive(Clone, Copy)]
 pub struct Running {
     pub marking: Marking,
     pub accepted: bool,
@@ -52,7 +52,7 @@ pub struct Running {
 }
 
 // The words of a table, for a caller that cannot lend them.
-#[derive(Drop)]
+#[derive(Clone, Copy)]
 pub struct Words {
     pub rows: [u64; 640],
     pub links: [u64; 256],

@@ -1,4 +1,6 @@
 // The image reader: tables and markings in and out. Nothing enters the engine that it did not judge, and nothing leaves that it cannot read back.
+#![tactic(auto)]
+
 mod bits;
 mod judge;
 pub mod judging;

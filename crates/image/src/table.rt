@@ -12,7 +12,7 @@ use crate::{bits, judge};
 use rules::{Relation, Table, TableAnswer};
 
 // The events of each class, or the number of a spare bit.
-#[derive(Drop)]
+#[derive(Clone, Copy)]
 pub struct Classes {
     pub number: u8,
     pub controllable: u64,

@@ -1,10 +1,12 @@
 // The decoded types, and the answers of the public calls. What they mean stands in specs/.
+#![tactic(auto)]
+
 ghost use Rattle.std.specs.Prelude.{◌≡◌};
 ghost use Rattle.rules.specs.Holds.{empty_marking};
 ghost use Rattle.rules.specs.Image.{fresh as freshAnswer};
 
 // A condition, response, inclusion, exclusion or milestone: left first, right second.
-#[derive(Drop)]
+#[derive(Clone, Copy)]
 pub struct Relation {
     pub kind: u8,
     pub left: u8,
@@ -15,7 +17,7 @@ pub struct Relation {
 
 // A table. Event n is in a class if the class's set has the bit worth 2^n; `count` is the number of relations; in a firm table no response moves
 // a deadline out.
-#[derive(Drop)]
+#[derive(Clone, Copy)]
 pub struct Table {
     pub relations: [Relation; Table::MOST_RELATIONS],
     pub controllable: u64,
@@ -26,7 +28,7 @@ pub struct Table {
 }
 
 // What a marking holds of one event. `count` is how often it was executed.
-#[derive(Drop)]
+#[derive(Clone, Copy)]
 pub struct Record {
     pub age: u32,
     pub deadline: u32,
@@ -37,7 +39,7 @@ pub struct Record {
     pub count: u32,
 }
 
-#[derive(Drop)]
+#[derive(Clone, Copy)]
 pub struct Marking {
     pub records: [Record; Table::MOST_EVENTS],
     pub events: usize,
@@ -47,7 +49,7 @@ pub struct Marking {
 pub const LONGEST_LIST: usize = 255;
 
 // One step of a trace, of one of the kinds below; ticks have event 0.
-#[derive(Drop)]
+#[derive(Clone, Copy)]
 pub struct Step {
     pub kind: u8,
     pub event: u8,
@@ -55,32 +57,32 @@ pub struct Step {
 
 // The answers. A `number` is 0 for done, else the number given for refusal. A table stands before its number, so that the compiler makes it where
 // it is answered: behind the number it takes one more copy on the stack.
-#[derive(Drop)]
+#[derive(Clone, Copy)]
 pub struct TableAnswer {
     pub table: Table,
     pub number: u8,
 }
 
-#[derive(Drop)]
+#[derive(Clone, Copy)]
 pub struct MarkingAnswer {
     pub number: u8,
     pub marking: Marking,
 }
 
-#[derive(Drop)]
+#[derive(Clone, Copy)]
 pub struct EnabledAnswer {
     pub number: u8,
     pub enabled: bool,
 }
 
-#[derive(Drop)]
+#[derive(Clone, Copy)]
 pub struct SetAnswer {
     pub number: u8,
     pub set: u64,
 }
 
 // A set, and how many events it holds.
-#[derive(Drop)]
+#[derive(Clone, Copy)]
 pub struct ClosureAnswer {
     pub number: u8,
     pub set: u64,
@@ -88,14 +90,14 @@ pub struct ClosureAnswer {
 }
 
 // What a condition with an included right event answers.
-#[derive(Drop)]
+#[derive(Clone, Copy)]
 pub enum Rest {
     Never,
     By(i32),
 }
 
 // A condition whose right event is excluded is ignored; the rest is what it would answer if that event were included.
-#[derive(Drop)]
+#[derive(Clone, Copy)]
 pub enum MarginAnswer {
     Refused(u8),
     NotACondition,
@@ -105,7 +107,7 @@ pub enum MarginAnswer {
 }
 
 // Enabled unless: the relation would block if its right event were included.
-#[derive(Drop)]
+#[derive(Clone, Copy)]
 pub enum HoldUpAnswer {
     Refused(u8),
     Enabled,
@@ -115,14 +117,14 @@ pub enum HoldUpAnswer {
 }
 
 // How many relations stand in an event's way; the lent list names them.
-#[derive(Drop)]
+#[derive(Clone, Copy)]
 pub struct ChainAnswer {
     pub number: u8,
     pub count: usize,
 }
 
 // A rejection has the reason and the place: an event for reasons 1, 2 and 4, else a relation.
-#[derive(Drop)]
+#[derive(Clone, Copy)]
 pub enum CheckAnswer {
     Refused(u8),
     Accepts,
@@ -130,21 +132,21 @@ pub enum CheckAnswer {
 }
 
 // The three of them told in numbers: what each case is in these stands in specs/Numbers.
-#[derive(Drop)]
+#[derive(Clone, Copy)]
 pub struct ToldMargin {
     pub number: u8,
     pub kind: u8,
     pub ticks: i32,
 }
 
-#[derive(Drop)]
+#[derive(Clone, Copy)]
 pub struct ToldHoldUp {
     pub number: u8,
     pub kind: u8,
     pub relation: usize,
 }
 
-#[derive(Drop)]
+#[derive(Clone, Copy)]
 pub struct ToldCheck {
     pub number: u8,
     pub reason: u8,
@@ -152,7 +154,7 @@ pub struct ToldCheck {
 }
 
 // The events that a guarded tick caused are the first `count` of `caused`, in order; places past them are 0.
-#[derive(Drop)]
+#[derive(Clone, Copy)]
 pub struct GuardedAnswer {
     pub number: u8,
     pub reason: u8,
@@ -163,7 +165,7 @@ pub struct GuardedAnswer {
 }
 
 // How many events were caused while ticks were slept through; the lent list names them.
-#[derive(Drop)]
+#[derive(Clone, Copy)]
 pub struct SleptAnswer {
     pub number: u8,
     pub reason: u8,
@@ -173,14 +175,14 @@ pub struct SleptAnswer {
 }
 
 // How many ticks can pass before one finds an event due.
-#[derive(Drop)]
+#[derive(Clone, Copy)]
 pub struct TicksAnswer {
     pub number: u8,
     pub ticks: usize,
 }
 
 // The first `length` bytes of the preferred list, or of the fallback.
-#[derive(Drop)]
+#[derive(Clone, Copy)]
 pub struct RemedyAnswer {
     pub number: u8,
     pub fallback: bool,

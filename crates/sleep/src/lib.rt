@@ -1,5 +1,7 @@
 // So many guarded ticks in one call, and how many there can be before an event is due. The table and the marking are judged once and laid out as
 // words once, the check is made once, and a run of ticks before which nothing falls due is passed in one go.
+#![tactic(auto)]
+
 mod passing;
 mod refusing;
 

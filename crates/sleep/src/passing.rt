@@ -14,7 +14,7 @@ use duties::guard;
 use rules::Table;
 
 // The clock after some ticks, and how many events were caused by then.
-#[derive(Drop)]
+#[derive(Clone, Copy)]
 pub struct Passed {
     pub clock: u32,
     pub count: usize,

@@ -2,10 +2,12 @@
 // written, and a write that fails is not tried again; either is told in one line on standard error, since a program has no exit status to tell
 // it by. Every input is answered by a byte or more, so an empty output is the sign of a read that failed. A read or a write that a signal
 // interrupts counts as one that failed.
+#![tactic(auto)]
+
 ghost use Rattle.std.specs.Prelude.{◌≡◌, ◌⊎◌, ◌+◌, ◌<◌, ◌≤◌, length};
 
 // What came of reading: so many bytes, and whether a read failed.
-#[derive(Drop)]
+#[derive(Clone, Copy)]
 struct Reading {
     count: usize,
     failed: bool,

@@ -1,6 +1,8 @@
 // The bench on which every public call meets the second implementation: it reads calls from standard input and writes each call's
 // whole answer. A call is its number (1 byte), the payload's length (2 bytes, little-endian) and the payload; an answer is its length
 // (2 bytes) and its bytes.
+#![tactic(auto)]
+
 mod calls;
 mod engine_calls;
 mod list_calls;

@@ -3,7 +3,7 @@ use crate::bytes;
 use libc::{STDIN_FILENO, STDOUT_FILENO};
 
 // What a call's frame begins with; `there` is false at the end of the input.
-#[derive(Drop)]
+#[derive(Clone, Copy)]
 pub struct Call {
     pub there: bool,
     pub number: u8,

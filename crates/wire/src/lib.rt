@@ -3,6 +3,8 @@
 // A table is 261 words of 8 bytes. A relation is a word: kind, left, right and bounded, a byte each, and the time; behind the relations come
 // controllable, causable, events, count and firm. A record of a marking is 16 bytes: age, deadline, then happened, included, pending and bounded,
 // a byte each, and the count; behind the records comes events, 8 bytes.
+#![tactic(auto)]
+
 pub mod answer;
 mod bytes;
 pub mod frame;

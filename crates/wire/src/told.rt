@@ -4,7 +4,7 @@ use rules::{
     TicksAnswer,
 };
 
-#[derive(Drop)]
+#[derive(Clone, Copy)]
 pub struct Told {
     pub first: u64,
     pub first_bytes: u8,

@@ -17,7 +17,6 @@ use Rattle.rules.specs.Numbers.{check_number}
 use Rattle.rules.specs.EventSet.{has}
 use Rattle.rules.specs.Holds.{is_condition, is_response, is_inclusion, is_exclusion, is_milestone, is_controllable, is_causable, relation_of, record_of}
 use Rattle.rules.specs.Judge.{judged}
-use Rattle.rules.specs.Time.{time}
 use Rattle.rules.specs.Closure.{busy, inhibits, followed, closure}
 use Rattle.rules.specs.Check.{unreportable, uncausable, waiting, awaited, on_cycle, reopening, reviving, reason, verdict, check}
 use Rattle.rules.specs.Laws.Tests.{clash, denied, affirmed, not_true, both, join, either, or_left, or_right}

@@ -17,6 +17,7 @@ use Rattle.rules.specs.Counting.{times}
 use Rattle.rules.specs.Numbers.{done}
 use Rattle.rules.specs.Holds.{most_events, record_of}
 use Rattle.rules.specs.Judge.{judged}
+use Rattle.rules.specs.Effect.{effect}
 use Rattle.rules.specs.Time.{is_due, any_due, due_set, time, due_answer, plain_tick}
 use Rattle.rules.specs.Happen.{happen}
 use Rattle.rules.specs.Closure.{closure_answer}
@@ -87,7 +88,7 @@ due_none m h = eqb-true (due_set m) 0 (set_empty (λ e. is_due (record_of m e)) 
 effects_judged : (t : Table) (m : Marking) (l : List ℕ) → judged t m ≡ 0 → judged t (effects t m l) ≡ 0
 unfolding effects
 effects_judged t m [] h = h
-effects_judged t m (e ∷ l) h = effects_judged t _ l (effect_judged t m e h)
+effects_judged t m (e ∷ l) h = effects_judged t (effect t m e) l (effect_judged t m e h)
 
 -- the promise, in the words of the calls' answers
 pub caused_told : (t : Table) (m : Marking) → check t m ≡ Accepts → Caused t m (caused t m)

@@ -12,7 +12,7 @@ use Rattle.rules.specs.EventSet.{has}
 use Rattle.rules.specs.Holds.{is_condition, is_response, is_inclusion, is_milestone, relation_of, record_of}
 use Rattle.rules.specs.Enabled.{stops, blocks, is_enabled}
 use Rattle.rules.specs.Effect.{effect}
-use Rattle.rules.specs.Time.{is_due, time}
+use Rattle.rules.specs.Time.{is_due}
 use Rattle.rules.specs.Closure.{followed, follows}
 use Rattle.rules.specs.Guard.{holds_back, needed, goes_ahead, taken}
 use Rattle.rules.specs.Laws.Tests.{decide, clash, denied, both, join}

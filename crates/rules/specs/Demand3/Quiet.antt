@@ -1,8 +1,8 @@
 -- How long a caller may sleep: where the check accepts, sleeping any number of ticks up to the answer of quiet causes nothing; and where that is
 -- below the limit, an event is due after so many. Assumes nothing.
-use Rattle.std.specs.Prelude.{◌≡◌, true, false, ◌⊎◌, ℕ, ◌<◌, ◌≤◌, drop}
+use Rattle.std.specs.Prelude.{◌≡◌, true, false, ℕ, ◌<◌, ◌≤◌}
 use Rattle.std.proofs.Math.Path.{refl, ap, sym}
-use Rattle.std.proofs.Common.{◌∙◌, inl, inr, arith}
+use Rattle.std.proofs.Common.{◌∙◌, arith}
 use mathlib.Core.List.{List, []}
 use Rattle.std.proofs.Math.Logic.{⊎_elim}
 use Rattle.std.proofs.Math.ListN.{length}
@@ -12,11 +12,11 @@ use Rattle.rules.specs.declared.SetAnswer.{SetAnswer}
 use Rattle.rules.specs.declared.CheckAnswer.TheVariants.{Accepts}
 use Rattle.rules.specs.declared.SleptAnswer.{SleptAnswer}
 use Rattle.rules.specs.declared.TicksAnswer.{TicksAnswer}
-use Rattle.rules.specs.Counting.{lowest, repeated}
+use Rattle.rules.specs.Counting.{repeated}
 use Rattle.rules.specs.Judge.{judged}
 use Rattle.rules.specs.Time.{any_due, time, due_answer}
 use Rattle.rules.specs.Check.{check}
-use Rattle.rules.specs.Sleep.{most_ticks, Entry, slept, slept_caused, sleep_answer, places_of, sleep_list}
+use Rattle.rules.specs.Sleep.{most_ticks, Entry, slept, slept_caused, sleep_answer, sleep_list}
 use Rattle.rules.specs.Quiet.{quiet_ticks, quiet_answer}
 use Rattle.rules.specs.Laws.Tests.{clash}
 use Rattle.rules.specs.Laws.Counting.{Found, Lacks, lowest_cases, lowest_le, lowest_before}

@@ -12,7 +12,7 @@ use Rattle.std.proofs.Math.Seq.{split_at}
 use Rattle.std.proofs.lemmas.Bool.{eqb-false}
 use Rattle.rules.specs.declared.Table.{Table}
 use Rattle.rules.specs.declared.Marking.{Marking}
-use Rattle.rules.specs.declared.CheckAnswer.TheVariants.{Refused, Accepts, Rejects}
+use Rattle.rules.specs.declared.CheckAnswer.TheVariants.{Accepts, Rejects}
 use Rattle.rules.specs.declared.GuardedAnswer.{GuardedAnswer}
 use Rattle.rules.specs.declared.SleptAnswer.{SleptAnswer}
 use Rattle.rules.specs.Counting.{repeated}

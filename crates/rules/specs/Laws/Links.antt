@@ -1,6 +1,6 @@
 -- Lists of links: which relations they name, that none is named twice, what each of them has, and what a walk along the relations keeps. Assumes
 -- nothing.
-use Rattle.std.specs.Prelude.{◌≡◌, refl, Bool, true, false, not, ◌&&◌, ◌||◌, List, [], ◌∷◌, ◌++◌, ℕ, zero, suc, ◌<◌, ◌≤◌, ◌+◌, eqb, length}
+use Rattle.std.specs.Prelude.{◌≡◌, refl, Bool, true, false, not, ◌&&◌, ◌||◌, List, [], ◌∷◌, ◌++◌, ℕ, zero, suc, ◌<◌, ◌≤◌, eqb, length}
 use Rattle.std.proofs.Common.{◌∙◌, ap, arith, eq-eqb}
 use Rattle.rules.specs.Counting.{how_many}
 use Rattle.rules.specs.Chain.{Link, link, Visit, along, link_at, listed}

@@ -17,6 +17,7 @@ use Rattle.rules.specs.EventSet.{has}
 use Rattle.rules.specs.Holds.{is_causable, relation_of, record_of}
 use Rattle.rules.specs.Judge.{event_number}
 use Rattle.rules.specs.Enabled.{is_enabled}
+use Rattle.rules.specs.Effect.{effect}
 use Rattle.rules.specs.Time.{due_set, plain_tick_number}
 use Rattle.rules.specs.Happen.{happen_number}
 use Rattle.rules.specs.Closure.{followed, widened_fully}
@@ -100,12 +101,14 @@ module _ {t u : Table} where
   after_taken_all : {m n : Marking} → Agree t u m n → (es : List ℕ) → Below t.events es → Agree t u (taken_all t m es) (taken_all u n es)
   unfolding taken_all
   after_taken_all a [] none = a
-  after_taken_all a (e ∷ es) (one b below) = after_taken_all (after_taken a e b) es below
+  after_taken_all {m = m} {n = n} a (e ∷ es) (one b below) =
+      after_taken_all {m = taken t m e} {n = taken u n e} (after_taken a e b) es below
 
   executed_alike : {m n : Marking} → Agree t u m n → (es : List ℕ) → Below t.events es → executed_of t m es ≡ executed_of u n es
   unfolding executed_of
   executed_alike a [] none = refl
-  executed_alike a (e ∷ es) (one b below) = rw (goes_ahead_alike a e b, executed_alike (after_taken a e b) es below)
+  executed_alike {m = m} {n = n} a (e ∷ es) (one b below) =
+      rw (goes_ahead_alike a e b, executed_alike {m = taken t m e} {n = taken u n e} (after_taken a e b) es below)
 
   pub caused_alike : {m n : Marking} → Agree t u m n → caused t m ≡ caused u n
   unfolding caused
@@ -143,12 +146,13 @@ module _ {t u : Table} where
   in_turn_alike : {m n : Marking} → Agree t u m n → (es : List ℕ) → in_turn t m es ≡ in_turn u n es
   unfolding in_turn may_cause
   in_turn_alike a [] = refl
-  in_turn_alike a (e ∷ es) = ap₂ ◌&&◌ (may_cause_alike a e) (in_turn_alike (after_effect a e) es)
+  in_turn_alike {m = m} {n = n} a (e ∷ es) =
+      ap₂ ◌&&◌ (may_cause_alike a e) (in_turn_alike {m = effect t m e} {n = effect u n e} (after_effect a e) es)
 
   after_effects : {m n : Marking} → Agree t u m n → (es : List ℕ) → Agree t u (effects t m es) (effects u n es)
   unfolding effects
   after_effects a [] = a
-  after_effects a (e ∷ es) = after_effects (after_effect a e) es
+  after_effects {m = m} {n = n} a (e ∷ es) = after_effects {m = effect t m e} {n = effect u n e} (after_effect a e) es
 
   discharges_alike : {m n : Marking} → Agree t u m n → (es : List ℕ) → discharges t m es ≡ discharges u n es
   unfolding discharges
@@ -193,9 +197,10 @@ module _ {t u : Table} where
   pub after_trace : {m n : Marking} → Agree t u m n → (steps : List Step) → Agree t u (end_of t m steps) (end_of u n steps)
   unfolding end_of
   after_trace a [] = a
-  after_trace a (s ∷ rest) = after_trace (after_step a s) rest
+  after_trace {m = m} {n = n} a (s ∷ rest) = after_trace {m = stepped t m s} {n = stepped u n s} (after_step a s) rest
 
   pub answers_alike : {m n : Marking} → Agree t u m n → (steps : List Step) → answers_of t m steps ≡ answers_of u n steps
   unfolding answers_of
   answers_alike a [] = refl
-  answers_alike a (s ∷ rest) = ap₂ ◌∷◌ (step_alike a s) (answers_alike (after_step a s) rest)
+  answers_alike {m = m} {n = n} a (s ∷ rest) =
+      ap₂ ◌∷◌ (step_alike a s) (answers_alike {m = stepped t m s} {n = stepped u n s} (after_step a s) rest)
