@@ -4,7 +4,7 @@
 usage: tools/respell.py [FOLDER]
 
 Run once, after port.py, at the top of the repository (or in FOLDER). Each row of the table has a name and its new spelling. Whole words turn, in
-.antt and .rt files, in must-fail edits and in their twins. In a comment a name with a dash turns only between backquotes, since it may be prose.
+.antt and .rt files, in must-fail edits and in their twins; a word stays in a file that imports it from a library. In a comment a name with a dash turns only between backquotes, since it may be prose.
 In a function's own Proof.antt a word behind a dot turns only where a record of the repository has such a field: the others are labels that
 Rattle makes.
 """
@@ -16,6 +16,7 @@ HERE = os.path.dirname(os.path.realpath(__file__))
 WORD = re.compile(r'[^\s(){}.;,@"«»`]+')
 FIELDS = re.compile(r"(?ms)^(?:pub )?record [^\n]*?where\n((?:  [^\n]*\n|\n)*)")
 FIELD = re.compile(r"(?m)^  +(?:pub )?([^\s:]+) :")
+USE = re.compile(r"(?m)^(?:ghost )?use ([^\s{;]+)\.\{([^}]*)\}")
 
 
 def table():
@@ -38,6 +39,16 @@ def fields(root):
             with open(path, encoding="utf-8") as f:
                 for block in FIELDS.findall(f.read()):
                     found.update(FIELD.findall(block))
+    return found
+
+
+def imported(text, crates):
+    """The words that the file imports from a library."""
+    found = set()
+    for module, items in USE.findall(text):
+        steps = module.split(".")
+        if steps[0] != "Rattle" or len(steps) > 1 and steps[1] not in crates:
+            found.update(item.split(" as ")[0].strip() for item in items.split(","))
     return found
 
 
@@ -78,12 +89,15 @@ def turn_line(line, mark, turned, own, is_proof):
 def main(root):
     turned = table()
     own = fields(root)
+    crates = set(os.listdir(os.path.join(root, "crates")))
     for path in texts(root):
         with open(path, encoding="utf-8") as f:
             before = f.read()
         mark = "//" if path.endswith(".rt") else "--"
         is_proof = path.endswith("/Proof.antt")
-        after = "\n".join(turn_line(line, mark, turned, own, is_proof) for line in before.split("\n"))
+        stays = imported(before, crates)
+        here = {old: new for old, new in turned.items() if old not in stays}
+        after = "\n".join(turn_line(line, mark, here, own, is_proof) for line in before.split("\n"))
         if after != before:
             with open(path, "w", encoding="utf-8") as f:
                 f.write(after)

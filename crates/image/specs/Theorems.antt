@@ -2,7 +2,7 @@
 -- what is built from plain numbers is told back in them. Assumes nothing.
 use Rattle.std.specs.Prelude.{◌≡◌, refl, Bool, not, cond, List, [], ◌∷◌, ◌++◌, ℕ, ◌+◌, ◌-◌, ◌*◌, ◌<◌, ◌≤◌, eqb, ltb, length, get_or, take, drop, replicate}
 use Rattle.std.proofs.Common.{sym, ap, ap₂, ◌∙◌, zero-add, arith, ne_eqb, take_at}
-use Rattle.std.proofs.lemmas.Bool.{not_false}
+use Rattle.std.proofs.lemmas.Bool.{not-false}
 use Rattle.rules.specs.declared.Table.{Table}
 use Rattle.rules.specs.declared.Marking.{Marking}
 use Rattle.rules.specs.declared.Record.{Record}
@@ -50,7 +50,7 @@ read_marking_exact events image h = (readable events image h).exact
 pub fresh_accepted : (events : ℕ) → (fresh events).number ≡ 0 → marking_number_for events (fresh events).marking ≡ 0
 unfolding fresh record_fits state_fits count_fits_lem
 fresh_accepted events h =
-    let fit = not_false (events_fit events) (if_done 2 (not (events_fit events)) h) in
+    let fit = not-false (events_fit events) (if_done 2 (not (events_fit events)) h) in
     rw fit (from_done_for events (λ e. fresh_record) fit (λ e l. refl))
 
 -- A table that is read is accepted by the judge.

@@ -87,7 +87,7 @@ pub fn relations_number(t: Table) -> u8
 // The most that an age or a deadline may be, by whether there is one. The constant is the definitions' limit.
 fn limit_if(there: bool) -> u32
     ensures most { result ≡ cond there limit 0 }
-    ensures* constant { do ⌜ (← (⟦Marking::AGE_LIMIT⟧).entry) ≡ limit ⌝ }
+    ensures constant { Marking.AGE_LIMIT ≡ limit }
 {
     if there { Marking::AGE_LIMIT } else { 0 }
 }
@@ -113,7 +113,7 @@ fn state_fits(r: Record) -> bool
 // The count agrees with whether the event has happened. No number of its type is above its limit.
 fn count_fits(r: Record) -> bool
     ensures fits { result ≡ count_fits_lem r }
-    ensures* constant { do ⌜ (← (⟦Marking::COUNT_LIMIT⟧).entry) ≡ count_limit ⌝ }
+    ensures constant { Marking.COUNT_LIMIT ≡ count_limit }
 {
     if r.happened {
         return 1 <= r.count;

@@ -3,7 +3,7 @@
 use Rattle.std.specs.Prelude.{◌≡◌, Bool, ◌&&◌, cond, List, ℕ, ◌<◌, ◌+◌, ◌^◌, eqb, leb, get_or}
 use Rattle.std.proofs.Math.Path.{refl, ap, ap₂, sym}
 use Rattle.std.proofs.Common.{◌∙◌, arith}
-use Rattle.std.proofs.Math.Bool.{true, false, not, ◌||◌, or_true, not-not}
+use Rattle.std.proofs.Math.Bool.{true, false, not, ◌||◌, or-true, not-not}
 use Rattle.std.proofs.Math.Dec.{ltb}
 use Rattle.std.specs.Int.Bits.{bit_or, bit_and}
 use borrow.Author.Tests.{eqb-true, eq-eqb, ltb-true, ltb-false, lt-ltb, lt-leb, le-leb}
@@ -118,7 +118,7 @@ either_way : (left condition milestone included happened pending timed young : B
 either_way false c s i h p z y q = rw (and_false (c && z))
 either_way true c s false h p z y q = rw (and_false c, and_false s, and_false ((c && z) && true))
 either_way true true s true false p z y q = refl
-either_way true true s true true p true true q = sym (or_true (s && p))
+either_way true true s true true p true true q = sym (or-true (s && p))
 either_way true true s true true p false true q = absurd (clash q refl)
 either_way true true s true true p z false q = rw (and_false (z && true), or_false (s && p))
 either_way true false s true h p z y q = sym (or_false (s && p))

@@ -2,7 +2,7 @@
 use Rattle.std.specs.Prelude.{◌≡◌, refl, Bool, true, false, ◌&&◌, cond, List, ℕ, ◌<◌, ◌≤◌, ◌+◌, ◌-◌, ◌/◌, ◌%◌, min, eqb, set}
 use Rattle.std.proofs.Common.{◌∙◌, arith, get_or-set_same, eq-eqb, ne_eqb}
 use Rattle.std.proofs.Math.Path.{ap, sym}
-use Rattle.std.proofs.Math.Bool.{or_true}
+use Rattle.std.proofs.Math.Bool.{or-true}
 use Rattle.std.proofs.Math.Decide.{ℕ_discrete}
 use Rattle.std.proofs.Math.ListN.{length, get_or, length-set}
 use Rattle.std.proofs.Math.Seq.{get_or-set_other}
@@ -55,7 +55,7 @@ module _ (clock : ℕ) where
     sooner_stored a x =
         elim (ℕ_discrete x right) [
           | yes q ↦
-              rw (q, has_with dated right right, eq-eqb right right refl, or_true (has dated right), get_or-set_same columns (64 + right) date 0 fits)
+              rw (q, has_with dated right right, eq-eqb right right refl, or-true (has dated right), get_or-set_same columns (64 + right) date 0 fits)
               (sym (sooner_met a time (has dated right) (get_or columns (64 + right) 0)))
           | no n ↦
               rw (

@@ -2,7 +2,7 @@
 use Rattle.std.specs.Prelude.{◌≡◌, refl, Bool, not, cond, ◌&&◌, ◌||◌, List, ℕ, ◌<◌, ◌≤◌, ◌+◌, ◌-◌, min, eqb, length, get_or, set}
 use Rattle.std.proofs.Common.{◌∙◌, zero-add, arith, length-set, get_or-set_same, get_or-set_other, eq-eqb, ne_eqb, lt-ltb}
 use Rattle.std.proofs.Math.Path.{ap, sym}
-use Rattle.std.proofs.Math.Bool.{true, false, and-true, or_true}
+use Rattle.std.proofs.Math.Bool.{true, false, and-true, or-true}
 use Rattle.std.proofs.Math.Decide.{ℕ_discrete}
 use Rattle.std.proofs.Math.Nat.{min_comm}
 use Rattle.rules.specs.declared.Table.{Table}
@@ -66,12 +66,12 @@ module _ (age ticks count : ℕ) (h i p b : Bool) where
   -- no date is kept: what is given replaces it
   replaced : (d : Deadline) (own out put : Bool) → fields_after false d own out put ≡ responded false d (own_before own out put)
   unfolding fields_after executed with_deadline
-  replaced none true out put = rw (or_true h, and_false p, and_false b, included_by_lem i out put)
-  replaced eventually true out put = rw (or_true h, and_false p, and_false b, included_by_lem i out put)
-  replaced (within c) true out put = rw (or_true h, and_false p, and_false b, included_by_lem i out put)
+  replaced none true out put = rw (or-true h, and_false p, and_false b, included_by_lem i out put)
+  replaced eventually true out put = rw (or-true h, and_false p, and_false b, included_by_lem i out put)
+  replaced (within c) true out put = rw (or-true h, and_false p, and_false b, included_by_lem i out put)
   replaced none false out put = rw (or_false h, and-true p, or_false p, and-true b, and-true b, or_false b, or_false b, included_by_lem i out put)
-  replaced eventually false out put = rw (or_false h, and-true p, or_true p, and-true b, and_false b, included_by_lem i out put)
-  replaced (within c) false out put = rw (or_false h, and-true p, or_true p, and-true b, and_false b, included_by_lem i out put)
+  replaced eventually false out put = rw (or_false h, and-true p, or-true p, and-true b, and_false b, included_by_lem i out put)
+  replaced (within c) false out put = rw (or_false h, and-true p, or-true p, and-true b, and_false b, included_by_lem i out put)
 
 none_of_itself : (p b : Bool) → ((p && false) && (b && false)) ≡ false
 none_of_itself p b = rw (and_false p)

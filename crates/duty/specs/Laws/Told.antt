@@ -6,7 +6,7 @@ use Rattle.std.proofs.Math.Path.{ap, sym}
 use Rattle.std.proofs.Math.Bool.{not}
 use Rattle.std.proofs.Math.Dec.{ltb}
 use Rattle.std.proofs.Math.ListN.{drop}
-use Rattle.std.proofs.lemmas.Bool.{not_false}
+use Rattle.std.proofs.lemmas.Bool.{not-false}
 use Rattle.rules.specs.declared.TableAnswer.{TableAnswer}
 use Rattle.rules.specs.Numbers.{◌if◌, ◌else◌, done}
 use Rattle.rules.specs.Holds.{relation_of}
@@ -22,7 +22,7 @@ use Rattle.duty.specs.Laws.Answered.{left}
 
 -- of so many one that exists
 pub existing : (there which : ℕ) → (8 if not (ltb which there)) ≡ 0 → which < there
-existing there which h = ltb-true which there (not_false _ (if_done 7 _ h))
+existing there which h = ltb-true which there (not-false _ (if_done 7 _ h))
 
 -- the first number of three is 'done'
 module _ (first there which room needed : ℕ) {asked number : ℕ} (Asked-is : asked ≡ (8 if not (ltb which there) else 14 if ltb room needed))

@@ -39,7 +39,7 @@ use denote.Memory.{shares, pointee}
 use denote.Plain.{uint_vals, uint_Tells, uint_Makes}
 use denote.Builtin.{u8, usize}
 use denote.Ref.{Bor}
-use denote.Slice.{slice_ty, slice_val, ShrSlice, MutSlice, Room, room as roomy, heres, coded_holeys, shr_slice_at, mut_slice_at, shr_slice_vals, shr_slice_Tells, mut_slice_Tells}
+use denote.Slice.{slice-ty, slice_val, ShrSlice, MutSlice, Room, room as roomy, heres, coded_holeys, shr_slice_at, mut_slice_at, shr_slice_vals, shr_slice_Tells, mut_slice_Tells}
 use denote.Index.{place_is, place_byte, elem_out, elem_back, elem_put, looks_slice, shuts_slice, opens_slice, closes_slice}
 use denote.Signature.{plain}
 use denote.Steps.{only, nothing, owned, peeks, heard}
@@ -126,10 +126,10 @@ abbrev word : Ty
 word = ty_int w64
 
 abbrev steps_ty : Ty
-steps_ty = slice_ty (ty_ref (named 0) imm (pointee R.written))
+steps_ty = slice-ty (ty_ref (named 0) imm (pointee R.written))
 
 abbrev bytes_ty : Ty
-bytes_ty = slice_ty (ty_ref (named 1) mut (ty_int w8))
+bytes_ty = slice-ty (ty_ref (named 1) mut (ty_int w8))
 
 -- the answer of a run that has ended
 abbrev answer_of : Running → MarkingAnswer

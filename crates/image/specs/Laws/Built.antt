@@ -5,7 +5,7 @@ use Rattle.std.specs.Prelude.{◌≡◌, refl, Bool, true, ◌&&◌, List, [], �
 use Rattle.std.proofs.Math.Path.{sym, ap, ap₂}
 use Rattle.std.proofs.Common.{◌∙◌, arith, lit<, get_or-take, get_or-drop}
 use Rattle.std.proofs.Math.Bool.{not}
-use borrow.Author.Tests.{lt-ltb, le-ltb, ltb-false, eq-eqb, eqb-true, not_false}
+use borrow.Author.Tests.{lt-ltb, le-ltb, ltb-false, eq-eqb, eqb-true, not-false}
 use Rattle.std.proofs.Math.Dec.{eqb, ltb}
 use Rattle.std.proofs.Math.ListN.{length, get_or, drop, length-drop}
 use Rattle.rules.specs.declared.Relation.{Relation}
@@ -60,15 +60,15 @@ module _ (events firm : ℕ) (classes numbers : List ℕ) where
       let s = both_done (first_of count (numbers_number events numbers)) _ r.1 in
       let each : (k : ℕ) → k < count → (relation_number events (relation_from numbers k) ≡ 0) × (6 if ltb 1 (number_in numbers k 3) ≡ 0) =
       λ k l. both_done (relation_number events (relation_from numbers k)) _ (first_each (numbers_number events numbers) count k s.0 l) in
-      let sizes = both (eqb (length classes) events) _ (not_false exact (if_done 0 _ q.0)) in
+      let sizes = both (eqb (length classes) events) _ (not-false exact (if_done 0 _ q.0)) in
       record {
         firm_bit = omega (arith, ltb-false 1 firm (if_done 1 _ f.0));
-        fit = not_false fits (if_done 2 _ p.0);
+        fit = not-false fits (if_done 2 _ p.0);
         class_each = eqb-true (length classes) events sizes.0;
         five_each = eqb-true (length numbers) (5 * count) sizes.1;
         class_clear = λ e l.
             let spare = first_each (λ x. 2 if not (eqb (field classes (8 * x + 2) 6) 0)) events e r.0 l in
-            eqb-true (field classes (8 * e + 2) 6) 0 (not_false _ (if_done 1 _ spare));
+            eqb-true (field classes (8 * e + 2) 6) 0 (not-false _ (if_done 1 _ spare));
         relation_done = λ k l. (each k l).0;
         bounded_bit = λ k l. omega (arith, ltb-false 1 (number_in numbers k 3) (if_done 5 _ (each k l).1));
       }
@@ -201,7 +201,7 @@ module _ (firm : ℕ) (classes numbers : List ℕ) (t : Table) (tells : Tells fi
       rw (
         le-ltb 1 firm (omega (arith, tells.firm_told, bit_lt t.firm)),
         count_told,
-        not_false fits (if_done 2 _ q.0),
+        not-false fits (if_done 2 _ q.0),
         eq-eqb (length classes) n tells.class_each,
         eq-eqb (length numbers) (5 * t.count) tells.five_each,
         first_done (λ e. 2 if not (eqb (field classes (8 * e + 2) 6) 0)) n (λ e l. rw (class_of e l).2),

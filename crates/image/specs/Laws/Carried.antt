@@ -7,7 +7,7 @@ use Rattle.std.proofs.Math.Bool.{not, and-true}
 use Rattle.std.proofs.Math.Logic.{⊎_elim}
 use mathlib.Core.List.{List, [], ◌∷◌, ◌++◌}
 use Prim.Native.Nat.{ℕ, ◌*◌, ◌<◌}
-use borrow.Author.Tests.{eq-eqb, eqb-true, not_false}
+use borrow.Author.Tests.{eq-eqb, eqb-true, not-false}
 use Rattle.std.proofs.Math.Dec.{ltb}
 use Rattle.std.proofs.Math.ListN.{drop}
 use Rattle.rules.specs.Counting.{some}
@@ -64,8 +64,8 @@ module _ (events : ℕ) (old : List ℕ) where
       let p = both_done (3 if not (events_fit events)) _ h in
       let q = both_done (1 if not (eqb (length old) (old_record_bytes * events))) _ p.1 in (
         record {
-          fit = not_false _ (if_done 2 _ p.0);
-          exact = eqb-true (length old) (old_record_bytes * events) (not_false _ (if_done 0 _ q.0));
+          fit = not-false _ (if_done 2 _ p.0);
+          exact = eqb-true (length old) (old_record_bytes * events) (not-false _ (if_done 0 _ q.0));
         },
         q.1,
       )

@@ -3,7 +3,7 @@ use Rattle.std.specs.Prelude.{◌≡◌, refl, true, List, [], ℕ, ◌+◌, ◌
 use Rattle.std.proofs.Common.{sym, ap₂, ◌∙◌, append-nil, le_of_eq, zero-add, arith, take_all}
 use Rattle.std.proofs.Math.Path.{ap}
 use Rattle.std.proofs.Math.Bool.{not}
-use borrow.Author.Tests.{eq-eqb, eqb-true, not_false}
+use borrow.Author.Tests.{eq-eqb, eqb-true, not-false}
 use Rattle.std.proofs.Math.ListN.{get_or-append}
 use Rattle.rules.specs.declared.Record.{Record}
 use Rattle.rules.specs.declared.Marking.{Marking}
@@ -51,8 +51,8 @@ module _ (events : ℕ) (image : List ℕ) where
       let p = both_done (3 if not (events_fit events)) _ h in
       let q = both_done (1 if not (eqb (length image) (record_bytes * events))) _ p.1 in
       record {
-        fit = not_false _ (if_done 2 _ p.0);
-        exact = eqb-true (length image) (record_bytes * events) (not_false _ (if_done 0 _ q.0));
+        fit = not-false _ (if_done 2 _ p.0);
+        exact = eqb-true (length image) (record_bytes * events) (not-false _ (if_done 0 _ q.0));
         done = λ e l. first_each (λ x. record_number (record_at image (record_bit x))) events e q.1 l;
       }
 
@@ -95,7 +95,7 @@ module _ (m : Marking) (judged : marking_number m ≡ 0) where
   pub image_readable : Readable m.events (marking_image m)
   unfolding marking_number
   image_readable = record {
-    fit = not_false _ (if_done 2 _ (both_done (3 if not (events_fit m.events)) _ judged).0);
+    fit = not-false _ (if_done 2 _ (both_done (3 if not (events_fit m.events)) _ judged).0);
     exact = image_length m;
     done = λ e l. ap record_number (record_again e l) ∙ record_done m judged e l;
   }

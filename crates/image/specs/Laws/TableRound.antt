@@ -1,16 +1,15 @@
 -- The images of tables go round both ways: a table that an image can hold is judged as its image is read, its image is read as the table, and what
 -- is read is written as the same bytes. Assumes nothing.
-use Rattle.std.specs.Prelude.{◌≡◌, Bool, true, ◌&&◌, ℕ, ◌+◌, ◌-◌, ◌*◌, ◌<◌, ◌≤◌, eqb, get_or, take, drop}
+use Rattle.std.specs.Prelude.{◌≡◌, Bool, true, ◌&&◌, ℕ, ◌+◌, ◌*◌, ◌<◌, ◌≤◌, eqb, get_or, take, drop}
 use Rattle.std.proofs.Common.{sym, ap, ◌∙◌, mod-eq_of_lt, le_of_eq, zero-add, arith, length-append, take_all, take-add}
 use Rattle.std.proofs.Math.Path.{ap₂}
 use Rattle.std.proofs.Math.Bool.{not}
 use mathlib.Core.List.{List, [], ◌++◌, append_assoc, append-nil}
-use borrow.Author.Tests.{le-ltb, eq-eqb, eqb-true, not_false}
+use borrow.Author.Tests.{le-ltb, eq-eqb, eqb-true, not-false}
 use Rattle.std.proofs.Math.Dec.{ltb}
 use Rattle.std.proofs.Math.ListN.{length, get_or-append}
 use Rattle.rules.specs.declared.Relation.{Relation}
 use Rattle.rules.specs.declared.Table.{Table}
-use Rattle.rules.specs.Counting.{places}
 use Rattle.rules.specs.Numbers.{◌if◌, first_of}
 use Rattle.rules.specs.Holds.{empty_relation, relation_of, is_controllable, is_causable}
 use Rattle.rules.specs.Fields.{field, ◌▸◌, ◌∶◌, bit, bytes_of}
@@ -139,15 +138,15 @@ module _ (image : List ℕ) where
       (first_each (λ j. relation_image_number image n (relation_bit n j)) count k t.1 l) in
       record {
         clear = spare (header_spare image) q.0;
-        fit = not_false _ (if_done 2 _ r.0);
-        exact = eqb-true (length image) (table_length n count) (not_false _ (if_done 0 _ s.0));
+        fit = not-false _ (if_done 2 _ r.0);
+        exact = eqb-true (length image) (table_length n count) (not-false _ (if_done 0 _ s.0));
         class_clear = λ e l. spare (class_spare image e) (first_each (class_number image) n e t.0 l);
         relation_clear = λ k l. spare (relation_spare image (relation_bit n k)) (each k l).0;
         relation_done = λ k l. (each k l).1;
       }
     where
       spare : (x : ℕ) → 2 if not (eqb x 0) ≡ 0 → x ≡ 0
-      spare x e = eqb-true x 0 (not_false _ (if_done 1 _ e))
+      spare x e = eqb-true x 0 (not-false _ (if_done 1 _ e))
 
   -- the table that is read is judged 'done', its unused places are empty, and its image is the image
   module _ (r : TableReadable image) where

@@ -32,7 +32,7 @@ use denote.Plain.{uint_vals, uint_Tells}
 use denote.Builtin.{u8, usize}
 use denote.Ref.{MutBor}
 use denote.Array.{Array, array_vals, Array-Tells, Array-Typed}
-use denote.Slice.{slice_ty, slice_val, MutSlice, Room, finally, mut_slice_vals, mut_slice_Tells}
+use denote.Slice.{slice-ty, slice_val, MutSlice, Room, finally, mut_slice_vals, mut_slice_Tells}
 use denote.Signature.{plain}
 use denote.Signature.Array.{array_of}
 use denote.Steps.{nothing, owned, peeks, heard}
@@ -84,8 +84,8 @@ stayed = (
 abbrev array_ty : Ty
 array_ty = ty_array Step'.mir 4200
 
-abbrev slice_ty : Ty
-slice_ty = slice_ty (ty_ref erased imm (pointee R.written))
+abbrev slice-ty : Ty
+slice-ty = slice-ty (ty_ref erased imm (pointee R.written))
 
 -- machine values
 abbrev low_table : Table → Val
@@ -193,7 +193,7 @@ module _ {M : Type 1} {𝓤 : Ura M} (𝓛 : Logic 𝓤) (mem : Memory → SProp
         assigns ! (addr ! (from ! (stop !))) (from ! (stop !)) (init ! 6 refl (tt, tt)) $
         assigns ! (agg ! (and_then ! (load ! (from ! (stop !)) (look ! 6 refl)) (and_then ! (load ! (from ! (stop !)) (look ! 16 refl)) (no_more !))))
         (from ! (stop !)) (init ! 4 refl (tt, (tt, (record { fits = n-fits }, tt)))) $
-        rewrite ! 4 (λ (k : ℕ). ‵ (fat full_share slice_ty l₈ 0 (slice_val (l₆, 0) k))) (sym first_long) refl $
+        rewrite ! 4 (λ (k : ℕ). ‵ (fat full_share slice-ty l₈ 0 (slice_val (l₆, 0) k))) (sym first_long) refl $
         assigns ! (addr ! (from ! (fld ! refl (hop ! (look_in ! 10 (sub ! 0 refl (whole !))) (stop !))))) (from ! (stop !)) (init ! 2 refl (tt, tt)) $
         assigns ! (agg ! (and_then ! (load ! (from ! (stop !)) (look ! 2 refl))
         (and_then ! (load ! (from ! (fld ! refl (stop !))) (look_in ! 10 (sub ! 1 refl (whole !)))) (no_more !)))) (from ! (stop !))
