@@ -1,0 +1,6 @@
+-- By the members of the words.
+use Rattle.rules.specs.Laws.Bitwise.{has_or}
+use Rattle.acts.proofs.effect.included_after.Goals as goal
+
+pub returns : goal.returns
+returns c x = rw (has_or, has_or, c.without.ensures x)
