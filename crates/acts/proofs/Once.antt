@@ -12,7 +12,7 @@ use Rattle.rules.specs.declared.Table.{Table}
 use Rattle.rules.specs.declared.Record.{Record}
 use Rattle.rules.specs.declared.Marking.{Marking}
 use Rattle.rules.specs.EventSet.{has}
-use Rattle.rules.specs.Laws.Turns.{same_word}
+use Rattle.rules.proofs.Laws.Turns.{same_word}
 use Rattle.acts.specs.Derived.{Derived, Linked, Unlinked}
 use Rattle.acts.specs.Stands.{Stands}
 

@@ -12,8 +12,8 @@ use Rattle.rules.specs.Numbers.{◌if◌}
 use Rattle.rules.specs.Holds.{count_limit, record_of}
 use Rattle.rules.specs.Images.{table_of, marking_of, images_number, record_fields, fields_number, fields_told}
 use Rattle.rules.specs.History.{Act, executions_of}
-use Rattle.rules.specs.Laws.Numbers.{both_done}
-use Rattle.rules.specs.Demand3.Counts.{judged_counts, calls_count}
+use Rattle.rules.proofs.Laws.Numbers.{both_done}
+use Rattle.rules.proofs.Demand3.Counts.{judged_counts, calls_count}
 use Rattle.duty.specs.Laws.Images.{read_judged}
 use Rattle.duty.specs.Laws.Told.{existing}
 use Rattle.duty.proofs.Chained.{Record, Chained, acts_in}

@@ -33,17 +33,17 @@ use Rattle.rules.specs.Calls.{step, guarded_ticks, ticks_told, Calls, Caused}
 use Rattle.rules.specs.Calls.{none as engine-none, happened as engine-happened, ticked as engine-ticked, slept_through as engine-slept}
 use Rattle.rules.specs.Calls.{guardedly as engine-guardedly, ran_bytes as engine-ran, offered as engine-offered, acts_in as engineActs, listed as engineListed}
 use Rattle.rules.specs.Calls.{Answered as EngineAnswered}
-use Rattle.rules.specs.Laws.Counting.{repeated_keeps}
-use Rattle.rules.specs.Laws.Check.{verdict_done}
-use Rattle.rules.specs.Laws.InNumbers.{check_in_numbers_lem}
-use Rattle.rules.specs.Laws.Numbers.{both_done, else_done, done_alike}
-use Rattle.rules.specs.Laws.Taken.{caused_length, guarded_is}
-use Rattle.rules.specs.Laws.Trace.{guarded_judged, end_judged}
-use Rattle.rules.specs.Demand3.Facts.{effect_judged, time_judged}
-use Rattle.rules.specs.Demand3.Accepts.{check_accepts}
-use Rattle.rules.specs.Demand3.Leading.{after_history}
-use Rattle.rules.specs.Demand3.Chain.{chain}
-use Rattle.rules.specs.Demand3.Runner.{run_bytes_grants}
+use Rattle.rules.proofs.Laws.Counting.{repeated_keeps}
+use Rattle.rules.proofs.Laws.Check.{verdict_done}
+use Rattle.rules.proofs.Laws.InNumbers.{check_in_numbers_lem}
+use Rattle.rules.proofs.Laws.Numbers.{both_done, else_done, done_alike}
+use Rattle.rules.proofs.Laws.Taken.{caused_length, guarded_is}
+use Rattle.rules.proofs.Laws.Trace.{guarded_judged, end_judged}
+use Rattle.rules.proofs.Demand3.Facts.{effect_judged, time_judged}
+use Rattle.rules.proofs.Demand3.Accepts.{check_accepts}
+use Rattle.rules.proofs.Demand3.Leading.{after_history}
+use Rattle.rules.proofs.Demand3.Chain.{chain}
+use Rattle.rules.proofs.Demand3.Runner.{run_bytes_grants}
 use Rattle.duty.specs.Laws.Images.{read_judged}
 use Rattle.duty.specs.Laws.ReadBack.{AsRead, effect_as_read, time_as_read, effects_as_read, after_as_read, as_read, put_back_lem}
 use Rattle.duty.specs.Laws.Guarded.{caused_is}

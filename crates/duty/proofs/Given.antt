@@ -19,10 +19,10 @@ use Rattle.rules.specs.HoldUp.{told_hold_up}
 use Rattle.rules.specs.Check.{told_check}
 use Rattle.rules.specs.Images.{table_of, marking_of, images_number}
 use Rattle.rules.specs.Given.{given, EveryCall}
-use Rattle.rules.specs.Laws.InNumbers.{margin_in_numbers_lem, hold_up_in_numbers_lem, check_in_numbers_lem}
-use Rattle.rules.specs.Laws.Numbers.{both_done}
-use Rattle.rules.specs.Laws.Tests.{clash}
-use Rattle.rules.specs.Laws.Never.{if_given, else_given, every_call}
+use Rattle.rules.proofs.Laws.InNumbers.{margin_in_numbers_lem, hold_up_in_numbers_lem, check_in_numbers_lem}
+use Rattle.rules.proofs.Laws.Numbers.{both_done}
+use Rattle.rules.proofs.Laws.Tests.{clash}
+use Rattle.rules.proofs.Laws.Never.{if_given, else_given, every_call}
 use Rattle.duty.proofs.Chained.{Made, Happen, PlainTick, Check, GuardedTick, Sleep, Run, Remedies, Record}
 use Rattle.duty.proofs.duty_judge.Kinds as judge-kinds
 use Rattle.duty.proofs.duty_judge.Reads as judge

@@ -21,11 +21,11 @@ use Rattle.rules.specs.Sleep.{most_ticks, Entry, entry, sleep_number, sleep_answ
 use Rattle.rules.specs.Quiet.{quiet_answer}
 use Rattle.rules.specs.Images.{table_of, marking_of, images_number, on, put_back, guard_number}
 use Rattle.rules.specs.Calls.{listed as engineListed, come_to as engineComeTo, listed_in as engineListedIn, Singly as EngineSingly}
-use Rattle.rules.specs.Laws.Numbers.{both_done, else_done, else_refused, by_number}
-use Rattle.rules.specs.Laws.Trace.{guarded_judged}
-use Rattle.rules.specs.Laws.Sleep.{early_grants, checked}
-use Rattle.rules.specs.Demand3.Sleep.{sleep_singly as engine-singly, sleep_adds as engine-adds, moved_places}
-use Rattle.rules.specs.Demand3.Quiet.{quiet_sleeps as engine-quiet-sleeps, quiet_ends as engine-quiet-ends}
+use Rattle.rules.proofs.Laws.Numbers.{both_done, else_done, else_refused, by_number}
+use Rattle.rules.proofs.Laws.Trace.{guarded_judged}
+use Rattle.rules.proofs.Laws.Sleep.{early_grants, checked}
+use Rattle.rules.proofs.Demand3.Sleep.{sleep_singly as engine-singly, sleep_adds as engine-adds, moved_places}
+use Rattle.rules.proofs.Demand3.Quiet.{quiet_sleeps as engine-quiet-sleeps, quiet_ends as engine-quiet-ends}
 use Rattle.image.specs.Theorems.{read_is_written}
 use Rattle.duty.specs.Laws.Images.{read_judged, marking_long}
 use Rattle.duty.specs.Laws.Kept.{fills, filled}

@@ -18,13 +18,13 @@ use Rattle.rules.specs.Image.{state_at, event_image}
 use Rattle.rules.specs.Carrying.{old_record_bytes, old_record_bit, carried_at, carried, carry_number, carry_marking}
 use Rattle.rules.specs.Images.{table_of}
 use Rattle.rules.specs.Building.{relations_told, table_from, build_number, build, built_image, relation_told_number, relation_told, class_told_number, Tells}
-use Rattle.rules.specs.Laws.Counting.{places_same}
-use Rattle.rules.specs.Laws.EventSet.{set_has}
-use Rattle.rules.specs.Laws.Fields.{byte_field}
-use Rattle.rules.specs.Laws.Numbers.{if_done, both_done, by_number}
-use Rattle.rules.specs.Laws.Pieces.{piece_out}
-use Rattle.rules.specs.Laws.Written.{table_image_length, table_number_refused, table_number_done, table_bytes_kept, table_bytes_written}
-use Rattle.rules.specs.Laws.Written.{records_sized, image_length, number_done, bytes_kept, bytes_written, later_kept}
+use Rattle.rules.proofs.Laws.Counting.{places_same}
+use Rattle.rules.proofs.Laws.EventSet.{set_has}
+use Rattle.rules.proofs.Laws.Fields.{byte_field}
+use Rattle.rules.proofs.Laws.Numbers.{if_done, both_done, by_number}
+use Rattle.rules.proofs.Laws.Pieces.{piece_out}
+use Rattle.rules.proofs.Laws.Written.{table_image_length, table_number_refused, table_number_done, table_bytes_kept, table_bytes_written}
+use Rattle.rules.proofs.Laws.Written.{records_sized, image_length, number_done, bytes_kept, bytes_written, later_kept}
 use Rattle.image.specs.Laws.Round.{from_done, from_done_for, readable, readable_number, reads_as, images_back, record_again, image_readable}
 use Rattle.image.specs.Laws.Carried.{carry_bytes, carry_done, carried_record, carry_numbers, carried_bytes}
 use Rattle.image.specs.Parts.{is_controllable_in, is_causable_in}

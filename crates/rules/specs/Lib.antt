@@ -33,10 +33,8 @@ pub mod Promised
 pub mod History
 pub mod Deadline
 pub mod Calls
--- What inner contracts cite, and what follows from all of these.
+-- What inner contracts cite. What follows from all of these stands in proofs/.
 pub mod Shapes
-pub mod Laws
-pub mod Demand3
 -- The worked cases of docs/RULES.md, computed.
 pub mod Shop
 pub mod Cases

@@ -16,11 +16,11 @@ use Rattle.rules.specs.EventSet.{has}
 use Rattle.rules.specs.Holds.{is_condition, is_milestone, relation_of}
 use Rattle.rules.specs.Effect.{leads}
 use Rattle.rules.specs.Enabled.{stops, blocks, is_enabled}
-use Rattle.rules.specs.Laws.Tests.{clash, both, join, denied, same_test, and_false, or_false}
-use Rattle.rules.specs.Laws.Counting.{some_where, some_at, some_same, some_false}
-use Rattle.rules.specs.Laws.EventSet.{has_zero, has_small}
-use Rattle.rules.specs.Laws.Time.{set_empty}
-use Rattle.rules.specs.Laws.Bitwise.{has_or, has_and}
+use Rattle.rules.proofs.Laws.Tests.{clash, both, join, denied, same_test, and_false, or_false}
+use Rattle.rules.proofs.Laws.Counting.{some_where, some_at, some_same, some_false}
+use Rattle.rules.proofs.Laws.EventSet.{has_zero, has_small}
+use Rattle.rules.proofs.Laws.Time.{set_empty}
+use Rattle.rules.proofs.Laws.Bitwise.{has_or, has_and}
 use Rattle.rules.specs.Shapes.Good.{GoodTable}
 use Rattle.acts.specs.Derived.{sort_of, sorted, of_sort, Own}
 use Rattle.acts.specs.Stands.{age_at, record_in, Stands}

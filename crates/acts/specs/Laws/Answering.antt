@@ -11,8 +11,8 @@ use Rattle.rules.specs.declared.Table.{Table}
 use Rattle.rules.specs.EventSet.{has, with_event}
 use Rattle.rules.specs.Holds.{relation_of, is_response}
 use Rattle.rules.specs.Effect.{Deadline, none, eventually, within, smaller, is_bounded, given, smallest, response}
-use Rattle.rules.specs.Laws.Tests.{clash, both, or_false}
-use Rattle.rules.specs.Laws.EventSet.{has_with}
+use Rattle.rules.proofs.Laws.Tests.{clash, both, or_false}
+use Rattle.rules.proofs.Laws.EventSet.{has_with}
 use Rattle.rules.specs.Shapes.Good.{GoodTable}
 use Rattle.acts.specs.Derived.{sort_of, of_sort, last_of, Own}
 use Rattle.acts.specs.Acting.{sooner, Responded}

@@ -11,9 +11,9 @@ use Rattle.rules.specs.Counting.{lowest}
 use Rattle.rules.specs.Holds.{is_condition, is_milestone, relation_of, record_of}
 use Rattle.rules.specs.Enabled.{stops, blocks}
 use Rattle.rules.specs.HoldUp.{would_block}
-use Rattle.rules.specs.Laws.Tests.{clash, denied, both, join}
-use Rattle.rules.specs.Laws.Counting.{lowest_none, lowest_before}
-use Rattle.rules.specs.Laws.HoldUp.{stops_included}
+use Rattle.rules.proofs.Laws.Tests.{clash, denied, both, join}
+use Rattle.rules.proofs.Laws.Counting.{lowest_none, lowest_before}
+use Rattle.rules.proofs.Laws.HoldUp.{stops_included}
 use Rattle.acts.specs.Blocking.{as_if, blocks_as}
 
 pub stops_as : (returned : Bool) (k : Relation) (r : Record)

@@ -13,10 +13,10 @@ use Rattle.rules.specs.Holds.{is_condition, is_response, is_inclusion, is_milest
 use Rattle.rules.specs.Counting.{some}
 use Rattle.rules.specs.EventSet.{has, with_event}
 use Rattle.rules.specs.Shapes.Good.{GoodTable}
-use Rattle.rules.specs.Laws.Tests.{and_false, or_false}
-use Rattle.rules.specs.Laws.Counting.{some_none, some_more}
-use Rattle.rules.specs.Laws.EventSet.{has_with, has_zero}
-use Rattle.rules.specs.Laws.Granted.{time_fits_lem}
+use Rattle.rules.proofs.Laws.Tests.{and_false, or_false}
+use Rattle.rules.proofs.Laws.Counting.{some_none, some_more}
+use Rattle.rules.proofs.Laws.EventSet.{has_with, has_zero}
+use Rattle.rules.proofs.Laws.Granted.{time_fits_lem}
 use Rattle.acts.specs.Derived.{sort_of, row_of, sorted, Derived, Unlinked, chain_of, is_chained, link_of, rows_noted, links_noted}
 
 -- what a relation of a judged table holds fits its digits

@@ -7,8 +7,8 @@ use Rattle.rules.specs.declared.Marking.{Marking}
 use Rattle.rules.specs.EventSet.{has, with_event}
 use Rattle.rules.specs.Holds.{record_of}
 use Rattle.rules.specs.Time.{is_due, due_set, plain_tick_number}
-use Rattle.rules.specs.Laws.Tests.{both}
-use Rattle.rules.specs.Laws.Time.{none_due_yet, some_due_still}
+use Rattle.rules.proofs.Laws.Tests.{both}
+use Rattle.rules.proofs.Laws.Time.{none_due_yet, some_due_still}
 use Rattle.acts.specs.Stands.{ticks_at, record_in, Stands, may_be_due}
 use Rattle.acts.specs.Laws.Stands.{stands_events, stands_at}
 use Rattle.acts.specs.Laws.Members.{set_by_test}

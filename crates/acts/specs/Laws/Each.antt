@@ -6,11 +6,11 @@ use Rattle.std.proofs.Math.Decide.{ℕ_discrete}
 use Rattle.std.specs.Int.Bits.{bit_or}
 use Rattle.rules.specs.Counting.{some, lowest}
 use Rattle.rules.specs.EventSet.{has, with_event}
-use Rattle.rules.specs.Laws.Tests.{clash, denied, both, either, join, or_left, or_right, and_false, or_false, same_test}
-use Rattle.rules.specs.Laws.Counting.{some_where, some_at, some_false, lowest_cases}
-use Rattle.rules.specs.Laws.EventSet.{has_zero, has_minus_same, has_minus_other, has_with}
-use Rattle.rules.specs.Laws.Bitwise.{has_or}
-use Rattle.rules.specs.Laws.Turns.{same_word}
+use Rattle.rules.proofs.Laws.Tests.{clash, denied, both, either, join, or_left, or_right, and_false, or_false, same_test}
+use Rattle.rules.proofs.Laws.Counting.{some_where, some_at, some_false, lowest_cases}
+use Rattle.rules.proofs.Laws.EventSet.{has_zero, has_minus_same, has_minus_other, has_with}
+use Rattle.rules.proofs.Laws.Bitwise.{has_or}
+use Rattle.rules.proofs.Laws.Turns.{same_word}
 
 -- a word that is not 0 has a member
 pub some_member : (n w : ℕ) → ((x : ℕ) → has w x ≡ true → x < n) → (w ≡ 0 → ⊥) → (x : ℕ) × (has w x ≡ true)

@@ -12,8 +12,8 @@ use Rattle.rules.specs.EventSet.{has, with_event}
 use Rattle.rules.specs.Holds.{limit, count_limit}
 use Rattle.rules.specs.Effect.{Deadline, none, eventually, within, is_pending, is_bounded, ticks_of, response, includes, excludes, executed, with_deadline}
 use Rattle.rules.specs.Effect.{with_inclusion, responded, effect_at, effect}
-use Rattle.rules.specs.Laws.Tests.{and_false, or_false}
-use Rattle.rules.specs.Laws.EventSet.{has_zero, has_with}
+use Rattle.rules.proofs.Laws.Tests.{and_false, or_false}
+use Rattle.rules.proofs.Laws.EventSet.{has_zero, has_with}
 use Rattle.rules.specs.Shapes.Good.{GoodTable}
 use Rattle.acts.specs.Derived.{firm_set, Own}
 use Rattle.acts.specs.Stands.{age_at, ticks_at, record_in, Stands}

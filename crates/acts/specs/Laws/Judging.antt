@@ -6,7 +6,7 @@ use Rattle.rules.specs.declared.Record.{Record}
 use Rattle.rules.specs.declared.Marking.{Marking}
 use Rattle.rules.specs.Judge.{judged}
 use Rattle.rules.specs.Shapes.Good.{GoodTable, GoodMarking}
-use Rattle.rules.specs.Laws.Judge.{good}
+use Rattle.rules.proofs.Laws.Judge.{good}
 use Rattle.acts.specs.Stands.{Stands}
 use Rattle.acts.specs.Laws.Laid.{lay_good}
 

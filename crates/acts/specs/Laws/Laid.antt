@@ -12,10 +12,10 @@ use Rattle.rules.specs.Counting.{places, places_from}
 use Rattle.rules.specs.EventSet.{has}
 use Rattle.rules.specs.Holds.{limit, empty_record, record_of}
 use Rattle.rules.specs.Judge.{state_fits}
-use Rattle.rules.specs.Laws.Tests.{both, and_false, or_false}
-use Rattle.rules.specs.Laws.Counting.{length_places, places_more}
-use Rattle.rules.specs.Laws.Fit.{fits_parts}
-use Rattle.rules.specs.Laws.EventSet.{has_zero}
+use Rattle.rules.proofs.Laws.Tests.{both, and_false, or_false}
+use Rattle.rules.proofs.Laws.Counting.{length_places, places_more}
+use Rattle.rules.proofs.Laws.Fit.{fits_parts}
+use Rattle.rules.proofs.Laws.EventSet.{has_zero}
 use Rattle.rules.specs.Shapes.Good.{GoodMarking, Good}
 use Rattle.acts.specs.Stands.{age_at, ticks_at, record_in, marking_in, Stands}
 use Rattle.acts.specs.Laws.Stands.{four_of, four}

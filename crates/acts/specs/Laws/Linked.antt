@@ -13,9 +13,9 @@ use Rattle.rules.specs.declared.Table.{Table}
 use Rattle.rules.specs.Holds.{relation_of}
 use Rattle.rules.specs.Counting.{some}
 use Rattle.rules.specs.EventSet.{has}
-use Rattle.rules.specs.Laws.Tests.{both, join, and_false}
-use Rattle.rules.specs.Laws.Counting.{some_none}
-use Rattle.rules.specs.Laws.EventSet.{has_zero}
+use Rattle.rules.proofs.Laws.Tests.{both, join, and_false}
+use Rattle.rules.proofs.Laws.Counting.{some_none}
+use Rattle.rules.proofs.Laws.EventSet.{has_zero}
 use Rattle.rules.specs.Shapes.Good.{GoodTable}
 use Rattle.acts.specs.Derived.{sort_of, sorted, Derived, chain_of, is_chained, of_sort, last_of, link_of, Own, Linked, rows_noted, links_noted}
 use Rattle.acts.specs.Laws.Derived.{right_small, time_small, sort_small, has_passed, has_taken}

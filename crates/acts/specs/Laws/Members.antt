@@ -5,11 +5,11 @@ use Rattle.std.proofs.Math.Bool.{and-true}
 use Rattle.std.proofs.Math.Decide.{ℕ_discrete}
 use Rattle.std.specs.Int.Bits.{bit_and}
 use Rattle.rules.specs.EventSet.{has, set_of, lowest_of}
-use Rattle.rules.specs.Laws.Tests.{not_false, same_test, and_false}
-use Rattle.rules.specs.Laws.Counting.{Found, lowest_cases}
-use Rattle.rules.specs.Laws.EventSet.{has_zero, has_small, set_has, set_holds, has_minus_same, has_minus_other}
-use Rattle.rules.specs.Laws.Bitwise.{has_and, has_not}
-use Rattle.rules.specs.Laws.Turns.{same_word, empty_word, worth_le}
+use Rattle.rules.proofs.Laws.Tests.{not_false, same_test, and_false}
+use Rattle.rules.proofs.Laws.Counting.{Found, lowest_cases}
+use Rattle.rules.proofs.Laws.EventSet.{has_zero, has_small, set_has, set_holds, has_minus_same, has_minus_other}
+use Rattle.rules.proofs.Laws.Bitwise.{has_and, has_not}
+use Rattle.rules.proofs.Laws.Turns.{same_word, empty_word, worth_le}
 use Rattle.acts.specs.Derived.{every_event}
 
 -- a word is the set of a test, if its members exist and pass the test where they exist

@@ -11,9 +11,9 @@ use Rattle.rules.specs.EventSet.{has}
 use Rattle.rules.specs.Holds.{record_of}
 use Rattle.rules.specs.Time.{is_due, any_due, time}
 use Rattle.rules.specs.Quiet.{quiet_ticks}
-use Rattle.rules.specs.Laws.Tests.{clash, decide, both, join, denied}
-use Rattle.rules.specs.Laws.Counting.{some_at, some_false, lowest_is, lowest_none}
-use Rattle.rules.specs.Laws.EventSet.{has_zero, has_minus_other}
+use Rattle.rules.proofs.Laws.Tests.{clash, decide, both, join, denied}
+use Rattle.rules.proofs.Laws.Counting.{some_at, some_false, lowest_is, lowest_none}
+use Rattle.rules.proofs.Laws.EventSet.{has_zero, has_minus_other}
 use Rattle.acts.specs.Stands.{ticks_at, Stands, may_be_due}
 use Rattle.acts.specs.Laws.Stands.{stands_events, tick_stands}
 use Rattle.acts.specs.Laws.Due.{is_over, due_at}

@@ -9,7 +9,7 @@ use Rattle.rules.specs.declared.Table.{Table}
 use Rattle.rules.specs.Counting.{some}
 use Rattle.rules.specs.Holds.{is_condition, is_milestone, is_response, is_inclusion, is_exclusion, relation_of}
 use Rattle.rules.specs.Effect.{Deadline, none, eventually, within, smaller, is_pending, is_bounded, leads, given, smallest, response, includes, excludes}
-use Rattle.rules.specs.Laws.Counting.{some_same}
+use Rattle.rules.proofs.Laws.Counting.{some_same}
 use Rattle.rules.specs.Shapes.Good.{GoodTable, GoodRelation}
 use Rattle.acts.specs.Derived.{sort_of, sorted}
 use Rattle.acts.specs.Laws.Sorts.{sorts}

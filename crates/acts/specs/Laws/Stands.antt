@@ -11,7 +11,7 @@ use Rattle.rules.specs.Counting.{places, places_from, each_below, below_from}
 use Rattle.rules.specs.EventSet.{has}
 use Rattle.rules.specs.Holds.{limit, empty_record, record_of, with_records}
 use Rattle.rules.specs.Time.{later, time}
-use Rattle.rules.specs.Laws.Counting.{length_places, places_at}
+use Rattle.rules.proofs.Laws.Counting.{length_places, places_at}
 use Rattle.acts.specs.Stands.{age_at, ticks_at, record_in, marking_in, Stands}
 
 -- a change of the first n places of a list that has r there makes a list that has s there, if it makes each place of s out of that of r

@@ -4,8 +4,8 @@ use Rattle.std.proofs.Common.{◌∙◌, arith}
 use Rattle.std.proofs.Math.Path.{ap}
 use Rattle.rules.specs.declared.Table.{Table}
 use Rattle.rules.specs.Counting.{some}
-use Rattle.rules.specs.Laws.Tests.{or_false}
-use Rattle.rules.specs.Laws.Counting.{some_at, some_none}
+use Rattle.rules.proofs.Laws.Tests.{or_false}
+use Rattle.rules.proofs.Laws.Counting.{some_at, some_none}
 use Rattle.rules.specs.Shapes.Good.{GoodTable}
 use Rattle.acts.specs.Derived.{last_of, Own}
 use Rattle.acts.specs.Acting.{is_young, waits_for}

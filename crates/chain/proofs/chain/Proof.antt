@@ -10,9 +10,9 @@ use Rattle.rules.specs.Numbers.{◌if◌, ◌else◌}
 use Rattle.rules.specs.Holds.{most_relations}
 use Rattle.rules.specs.Judge.{judged, event_number}
 use Rattle.rules.specs.Chain.{chain_number, chain_answer, chain_list}
-use Rattle.rules.specs.Laws.Numbers.{if_done, both_done, else_joined}
-use Rattle.rules.specs.Laws.Judge.{good, judged_by, event_by}
-use Rattle.rules.specs.Laws.Granted.{event_exists}
+use Rattle.rules.proofs.Laws.Numbers.{if_done, both_done, else_joined}
+use Rattle.rules.proofs.Laws.Judge.{good, judged_by, event_by}
+use Rattle.rules.proofs.Laws.Granted.{event_exists}
 use Rattle.chain.proofs.chain.Statement.{statement}
 use Rattle.chain.proofs.chain.Tie as tie
 

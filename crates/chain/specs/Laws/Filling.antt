@@ -12,7 +12,7 @@ use Rattle.rules.specs.declared.Marking.{Marking}
 use Rattle.rules.specs.Holds.{relation_of, record_of}
 use Rattle.rules.specs.Enabled.{stops, blocks}
 use Rattle.rules.specs.Shapes.Good.{GoodTable}
-use Rattle.rules.specs.Laws.Tests.{clash, decide, both, join, and_false}
+use Rattle.rules.proofs.Laws.Tests.{clash, decide, both, join, and_false}
 use Rattle.chain.specs.Words.{Words, First, WordsFrom}
 
 -- what the pass has made when the relations from i on are told

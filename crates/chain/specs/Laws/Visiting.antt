@@ -9,10 +9,10 @@ use Rattle.rules.specs.EventSet.{has, size_of, with_event}
 use Rattle.rules.specs.Holds.{relation_of, record_of}
 use Rattle.rules.specs.Enabled.{blocks}
 use Rattle.rules.specs.Chain.{Link, Visit, link, nothing, led_to, along, visit}
-use Rattle.rules.specs.Laws.EventSet.{has_with}
-use Rattle.rules.specs.Laws.Counting.{many_lt, many_le}
-use Rattle.rules.specs.Laws.Tests.{or_left, or_right}
-use Rattle.rules.specs.Laws.Links.{append_nothing}
+use Rattle.rules.proofs.Laws.EventSet.{has_with}
+use Rattle.rules.proofs.Laws.Counting.{many_lt, many_le}
+use Rattle.rules.proofs.Laws.Tests.{or_left, or_right}
+use Rattle.rules.proofs.Laws.Links.{append_nothing}
 use Rattle.chain.specs.Words.{State, step, noted, notes, carried, First}
 use Rattle.chain.specs.Laws.Notes.{carried_joined, carried_nothing}
 

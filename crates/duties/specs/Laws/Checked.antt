@@ -8,7 +8,7 @@ use Rattle.rules.specs.declared.CheckAnswer.TheVariants.{Refused, Accepts, Rejec
 use Rattle.rules.specs.Judge.{judged}
 use Rattle.rules.specs.Check.{reason, verdict, check}
 use Rattle.rules.specs.Guard.{caused, guarded, guarded_tick}
-use Rattle.rules.specs.Laws.Check.{Said, verdict_said}
+use Rattle.rules.proofs.Laws.Check.{Said, verdict_said}
 use Rattle.duties.specs.Taking.{answered, nothing}
 
 module _ (t : Table) (m : Marking) where

@@ -5,8 +5,8 @@ use Rattle.std.proofs.Common.{◌∙◌, ap, sym, ⊎_elim, inl, inr, arith, eqb
 use Rattle.rules.specs.declared.Table.{Table}
 use Rattle.rules.specs.EventSet.{has, with_event}
 use Rattle.rules.specs.Check.{awaited}
-use Rattle.rules.specs.Laws.Tests.{decide, clash, denied, either, or_left}
-use Rattle.rules.specs.Laws.EventSet.{has_zero, has_with}
+use Rattle.rules.proofs.Laws.Tests.{decide, clash, denied, either, or_left}
+use Rattle.rules.proofs.Laws.EventSet.{has_zero, has_with}
 use Rattle.rules.specs.Shapes.Good.{GoodTable}
 use Rattle.duties.specs.Inhibition.{word_of, Followed, Cleared}
 use Rattle.duties.specs.Laws.Followed.{awaited_within}

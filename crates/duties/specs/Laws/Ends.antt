@@ -9,10 +9,10 @@ use Rattle.rules.specs.Counting.{some, lowest}
 use Rattle.rules.specs.EventSet.{has}
 use Rattle.rules.specs.Holds.{relation_of}
 use Rattle.rules.specs.Effect.{leads}
-use Rattle.rules.specs.Laws.Tests.{clash, denied, both, join, and_false, same_test}
-use Rattle.rules.specs.Laws.Counting.{some_where, some_at, some_same, lowest_cases, lowest_none}
-use Rattle.rules.specs.Laws.EventSet.{has_zero}
-use Rattle.rules.specs.Laws.Bitwise.{has_or, has_and}
+use Rattle.rules.proofs.Laws.Tests.{clash, denied, both, join, and_false, same_test}
+use Rattle.rules.proofs.Laws.Counting.{some_where, some_at, some_same, lowest_cases, lowest_none}
+use Rattle.rules.proofs.Laws.EventSet.{has_zero}
+use Rattle.rules.proofs.Laws.Bitwise.{has_or, has_and}
 use Rattle.rules.specs.Shapes.Good.{GoodTable}
 use Rattle.acts.specs.Derived.{sort_of, row_of, sorted, Derived}
 use Rattle.duties.specs.Inhibition.{led_to}

@@ -17,16 +17,16 @@ use Rattle.rules.specs.Time.{due_set}
 use Rattle.rules.specs.Closure.{busy, inhibits, followed, follows, widened_fully, closure}
 use Rattle.rules.specs.Check.{awaited}
 use Rattle.rules.specs.Guard.{holds_back, needed, ready}
-use Rattle.rules.specs.Laws.Tests.{decide, clash, both, join, same_test, and_false}
-use Rattle.rules.specs.Laws.Counting.{some_where, some_at, some_same, some_false}
-use Rattle.rules.specs.Laws.EventSet.{has_zero, set_has, set_holds, set_lt_power}
-use Rattle.rules.specs.Laws.Time.{set_empty}
-use Rattle.rules.specs.Laws.Bitwise.{has_or, has_and}
-use Rattle.rules.specs.Laws.Turns.{same_word}
+use Rattle.rules.proofs.Laws.Tests.{decide, clash, both, join, same_test, and_false}
+use Rattle.rules.proofs.Laws.Counting.{some_where, some_at, some_same, some_false}
+use Rattle.rules.proofs.Laws.EventSet.{has_zero, set_has, set_holds, set_lt_power}
+use Rattle.rules.proofs.Laws.Time.{set_empty}
+use Rattle.rules.proofs.Laws.Bitwise.{has_or, has_and}
+use Rattle.rules.proofs.Laws.Turns.{same_word}
 use Rattle.rules.specs.Shapes.Good.{GoodTable}
-use Rattle.rules.specs.Laws.Widened.{has_below, fully_within, fully_contains, fully_closed}
-use Rattle.rules.specs.Laws.Closure.{follows_where}
-use Rattle.rules.specs.Laws.Needed.{due_fits}
+use Rattle.rules.proofs.Laws.Widened.{has_below, fully_within, fully_contains, fully_closed}
+use Rattle.rules.proofs.Laws.Closure.{follows_where}
+use Rattle.rules.proofs.Laws.Needed.{due_fits}
 use Rattle.acts.specs.Derived.{row_of, Derived, every_event}
 use Rattle.duties.specs.Inhibition.{inhibitors_in, followed_in, word_of, Followed, Reached, ready_in}
 use Rattle.acts.specs.Laws.Members.{set_by_test, has_every}

@@ -15,9 +15,9 @@ use Rattle.rules.specs.EventSet.{has, with_event}
 use Rattle.rules.specs.Holds.{is_response, relation_of}
 use Rattle.rules.specs.Effect.{leads}
 use Rattle.rules.specs.Closure.{followed}
-use Rattle.rules.specs.Laws.Tests.{decide, and_false}
-use Rattle.rules.specs.Laws.Counting.{some_none}
-use Rattle.rules.specs.Laws.EventSet.{has_zero}
+use Rattle.rules.proofs.Laws.Tests.{decide, and_false}
+use Rattle.rules.proofs.Laws.Counting.{some_none}
+use Rattle.rules.proofs.Laws.EventSet.{has_zero}
 use Rattle.acts.specs.Laws.Derived.{has_taken, has_passed}
 use Rattle.duties.specs.Inhibition.{word_of, Followed, Answers, words_noted, answers_noted}
 

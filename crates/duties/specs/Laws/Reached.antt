@@ -7,10 +7,10 @@ use Rattle.std.specs.Int.Bits.{bit_or}
 use Rattle.std.proofs.lemmas.Nat.{or_lt}
 use Rattle.rules.specs.Counting.{how_many}
 use Rattle.rules.specs.EventSet.{has, lowest_of}
-use Rattle.rules.specs.Laws.Tests.{decide, both, join, either, denied, clash, not_true, or_left, or_right, and_false}
-use Rattle.rules.specs.Laws.Counting.{Found, many_lt}
-use Rattle.rules.specs.Laws.EventSet.{has_zero}
-use Rattle.rules.specs.Laws.Bitwise.{has_or}
+use Rattle.rules.proofs.Laws.Tests.{decide, both, join, either, denied, clash, not_true, or_left, or_right, and_false}
+use Rattle.rules.proofs.Laws.Counting.{Found, many_lt}
+use Rattle.rules.proofs.Laws.EventSet.{has_zero}
+use Rattle.rules.proofs.Laws.Bitwise.{has_or}
 use Rattle.duties.specs.Inhibition.{Reached}
 use Rattle.acts.specs.Laws.Members.{lowest_found, has_rest}
 

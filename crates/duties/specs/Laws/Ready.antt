@@ -7,11 +7,11 @@ use Rattle.std.proofs.lemmas.List.{get_or-replicate}
 use Rattle.std.specs.Int.Bits.{bit_or, bit_and}
 use Rattle.rules.specs.Counting.{lowest}
 use Rattle.rules.specs.EventSet.{has, lowest_of, with_event}
-use Rattle.rules.specs.Laws.Tests.{decide, clash, denied, affirmed, both, either, join, or_left, or_right, same_test}
-use Rattle.rules.specs.Laws.Counting.{lowest_same}
-use Rattle.rules.specs.Laws.EventSet.{has_zero, has_minus_same, has_minus_other}
-use Rattle.rules.specs.Laws.Bitwise.{has_or, has_and}
-use Rattle.rules.specs.Laws.Turns.{same_word}
+use Rattle.rules.proofs.Laws.Tests.{decide, clash, denied, affirmed, both, either, join, or_left, or_right, same_test}
+use Rattle.rules.proofs.Laws.Counting.{lowest_same}
+use Rattle.rules.proofs.Laws.EventSet.{has_zero, has_minus_same, has_minus_other}
+use Rattle.rules.proofs.Laws.Bitwise.{has_or, has_and}
+use Rattle.rules.proofs.Laws.Turns.{same_word}
 use Rattle.acts.specs.Derived.{row_of}
 use Rattle.duties.specs.Inhibition.{followed_in, ready_in}
 use Rattle.duties.specs.Taking.{Awaits}

@@ -19,12 +19,12 @@ use Rattle.rules.specs.Holds.{is_condition, is_response, is_inclusion, is_exclus
 use Rattle.rules.specs.Effect.{leads}
 use Rattle.rules.specs.Closure.{inhibits, busy}
 use Rattle.rules.specs.Check.{unreportable, uncausable, waiting, on_cycle, reopening, reviving, reason}
-use Rattle.rules.specs.Laws.Tests.{decide, clash, not_true, both, either, join, same_test}
-use Rattle.rules.specs.Laws.Counting.{some_where, some_at, lowest_cases, lowest_is, lowest_none, lowest_same}
-use Rattle.rules.specs.Laws.EventSet.{has_zero, set_has, set_holds, set_fits}
-use Rattle.rules.specs.Laws.Bitwise.{has_or, has_and, has_one}
+use Rattle.rules.proofs.Laws.Tests.{decide, clash, not_true, both, either, join, same_test}
+use Rattle.rules.proofs.Laws.Counting.{some_where, some_at, lowest_cases, lowest_is, lowest_none, lowest_same}
+use Rattle.rules.proofs.Laws.EventSet.{has_zero, set_has, set_holds, set_fits}
+use Rattle.rules.proofs.Laws.Bitwise.{has_or, has_and, has_one}
 use Rattle.rules.specs.Shapes.Good.{GoodTable}
-use Rattle.rules.specs.Laws.Widened.{has_below}
+use Rattle.rules.proofs.Laws.Widened.{has_below}
 use Rattle.acts.specs.declared.derived.Head.{Head}
 use Rattle.acts.specs.Derived.{sort_of, head_of, Derived, every_event}
 use Rattle.duties.specs.Inhibition.{inhibitors_in, Followed, Answers, held_in}

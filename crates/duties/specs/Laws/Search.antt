@@ -4,9 +4,9 @@ use Rattle.std.proofs.Common.{◌∙◌, ap, sym, inl, inr, ne_eqb}
 use Rattle.std.proofs.Math.Decide.{ℕ_discrete}
 use Rattle.rules.specs.Counting.{lowest}
 use Rattle.rules.specs.EventSet.{has, lowest_of}
-use Rattle.rules.specs.Laws.Tests.{decide, both, denied, not_false, clash}
-use Rattle.rules.specs.Laws.Counting.{lowest_is, lowest_none}
-use Rattle.rules.specs.Laws.EventSet.{has_zero}
+use Rattle.rules.proofs.Laws.Tests.{decide, both, denied, not_false, clash}
+use Rattle.rules.proofs.Laws.Counting.{lowest_is, lowest_none}
+use Rattle.rules.proofs.Laws.EventSet.{has_zero}
 use Rattle.acts.specs.Laws.Members.{lowest_found, has_rest}
 
 -- of the events of a set some are left, and the test holds at none of the others

@@ -17,13 +17,13 @@ use Rattle.rules.specs.Holds.{record_of}
 use Rattle.rules.specs.Effect.{effect}
 use Rattle.rules.specs.Time.{time}
 use Rattle.rules.specs.Guard.{ready, order_of, taken, taken_all, executed_of, caused, guarded, needed}
-use Rattle.rules.specs.Laws.Tests.{both}
-use Rattle.rules.specs.Laws.Counting.{lowest_none}
-use Rattle.rules.specs.Laws.EventSet.{has_zero}
-use Rattle.rules.specs.Laws.Needed.{needed_fits}
-use Rattle.rules.specs.Laws.Order.{order_none, order_more, order_end, order_empty, order_length}
+use Rattle.rules.proofs.Laws.Tests.{both}
+use Rattle.rules.proofs.Laws.Counting.{lowest_none}
+use Rattle.rules.proofs.Laws.EventSet.{has_zero}
+use Rattle.rules.proofs.Laws.Needed.{needed_fits}
+use Rattle.rules.proofs.Laws.Order.{order_none, order_more, order_end, order_empty, order_length}
 use Rattle.rules.specs.Shapes.Good.{GoodTable}
-use Rattle.rules.specs.Laws.Widened.{has_below}
+use Rattle.rules.proofs.Laws.Widened.{has_below}
 use Rattle.acts.specs.Derived.{firm_set, Derived, Linked}
 use Rattle.duties.specs.Inhibition.{ready_in}
 use Rattle.acts.specs.Stands.{Stands}

@@ -8,7 +8,7 @@ use Rattle.rules.specs.declared.Marking.{Marking}
 use Rattle.rules.specs.declared.ChainAnswer.{ChainAnswer}
 use Rattle.rules.specs.Numbers.{◌else◌, done}
 use Rattle.rules.specs.Chain.{chain_answer, chain_list}
-use Rattle.rules.specs.Laws.Numbers.{else_done}
+use Rattle.rules.proofs.Laws.Numbers.{else_done}
 use Rattle.rules.specs.Images.{images_number, on}
 use Rattle.duty.specs.Laws.Kept.{chain_told}
 use Rattle.duty.specs.Laws.Answered.{left, unread, ruled, told_number, told_value}

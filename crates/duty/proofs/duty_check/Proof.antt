@@ -2,7 +2,7 @@
 use mathlib.Core.Path.{◌∙◌, sym}
 use Rattle.rules.specs.declared.ToldCheck.{ToldCheck}
 use Rattle.rules.specs.Check.{told_check}
-use Rattle.rules.specs.Laws.Numbers.{else_done}
+use Rattle.rules.proofs.Laws.Numbers.{else_done}
 use Rattle.duty.specs.Laws.Answered.{left, unread, is_read, not_read, ruled, told_number, told_value}
 use borrow.Author.Rules.{rules}
 use Rattle.duty.proofs.duty_check.Statement.{statement}

@@ -1,7 +1,7 @@
 -- A fresh marking is judged, so what is left to be in the way is the room. Assumes nothing.
 use mathlib.Core.Path.{◌∙◌, sym, ap}
 use Rattle.rules.specs.declared.MarkingAnswer.{MarkingAnswer}
-use Rattle.rules.specs.Laws.Numbers.{else_refused}
+use Rattle.rules.proofs.Laws.Numbers.{else_refused}
 use Rattle.duty.specs.Laws.Kept.{fresh_written}
 use Rattle.duty.specs.Laws.Answered.{left}
 use borrow.Author.Rules.{rules}

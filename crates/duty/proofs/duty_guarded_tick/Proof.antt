@@ -8,7 +8,7 @@ use Rattle.rules.specs.declared.GuardedAnswer.{GuardedAnswer}
 use Rattle.rules.specs.Numbers.{◌else◌}
 use Rattle.rules.specs.Image.{marking_image}
 use Rattle.rules.specs.Guard.{guarded_tick}
-use Rattle.rules.specs.Laws.Judge.{good}
+use Rattle.rules.proofs.Laws.Judge.{good}
 use Rattle.rules.specs.Images.{table_of, on, guard_number}
 use Rattle.duty.specs.Laws.Images.{read_judged}
 use Rattle.duty.specs.Laws.Kept.{guarded_tick_judged, filled}

@@ -6,7 +6,7 @@ use Rattle.rules.specs.declared.RemedyAnswer.{RemedyAnswer}
 use Rattle.rules.specs.Numbers.{◌else◌}
 use Rattle.rules.specs.Fields.{bit}
 use Rattle.rules.specs.Remedy.{remedy}
-use Rattle.rules.specs.Laws.Numbers.{else_done}
+use Rattle.rules.proofs.Laws.Numbers.{else_done}
 use Rattle.rules.specs.Images.{images_number, on}
 use Rattle.image.specs.Laws.Packed.{flag_byte}
 use Rattle.duty.specs.Laws.Answered.{left, unread, judged_read, ruled, told_number, told_value}

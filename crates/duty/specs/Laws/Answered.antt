@@ -8,7 +8,7 @@ use Rattle.rules.specs.declared.MarkingAnswer.{MarkingAnswer}
 use Rattle.rules.specs.Numbers.{◌else◌, done}
 use Rattle.rules.specs.Judge.{judged}
 use Rattle.rules.specs.Images.{table_of, marking_of, images_number, on, put_back}
-use Rattle.rules.specs.Laws.Numbers.{else_done, else_refused}
+use Rattle.rules.proofs.Laws.Numbers.{else_done, else_refused}
 use Rattle.duty.specs.declared.images.Images.{Images}
 use Rattle.duty.specs.Reading.{images}
 use Rattle.duty.specs.Performing.{Fills}

@@ -15,8 +15,8 @@ use Rattle.rules.specs.Holds.{most_events}
 use Rattle.rules.specs.Check.{check}
 use Rattle.rules.specs.Guard.{caused, guarded_tick}
 use Rattle.rules.specs.Images.{table_of, images_number, guard_number}
-use Rattle.rules.specs.Laws.Numbers.{if_done, both_done, else_done, else_refused}
-use Rattle.rules.specs.Laws.Taken.{caused_length}
+use Rattle.rules.proofs.Laws.Numbers.{if_done, both_done, else_done, else_refused}
+use Rattle.rules.proofs.Laws.Taken.{caused_length}
 use Rattle.duty.specs.declared.images.Images.{Images}
 use Rattle.duty.specs.Reading.{images}
 

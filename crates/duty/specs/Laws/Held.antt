@@ -12,9 +12,9 @@ use Rattle.rules.specs.Holds.{limit, most_events}
 use Rattle.rules.specs.Judge.{time_fits, relation_number}
 use Rattle.rules.specs.Building.{number_in, relation_from, numbers_number}
 use Rattle.rules.specs.Shapes.Good.{GoodRelation}
-use Rattle.rules.specs.Laws.Tests.{decide}
-use Rattle.rules.specs.Laws.Numbers.{else_nothing}
-use Rattle.rules.specs.Laws.Granted.{time_fits_lem}
+use Rattle.rules.proofs.Laws.Tests.{decide}
+use Rattle.rules.proofs.Laws.Numbers.{else_nothing}
+use Rattle.rules.proofs.Laws.Granted.{time_fits_lem}
 use Rattle.duty.specs.Making.{held, held_time, held_relation}
 
 -- a test that says of 255 what it says of any number above says the same of a held number

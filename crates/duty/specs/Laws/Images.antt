@@ -6,7 +6,7 @@ use Rattle.rules.specs.Numbers.{◌else◌}
 use Rattle.rules.specs.Judge.{judged}
 use Rattle.rules.specs.Image.{record_bytes, read_table, read_marking}
 use Rattle.rules.specs.Images.{table_of, marking_of, images_number}
-use Rattle.rules.specs.Laws.Numbers.{both_done}
+use Rattle.rules.proofs.Laws.Numbers.{both_done}
 use Rattle.image.specs.Theorems.{read_table_accepted, read_marking_accepted, read_marking_exact}
 use Rattle.duty.specs.Reading.{images}
 

@@ -19,12 +19,12 @@ use Rattle.rules.specs.Guard.{guarded, guarded_tick}
 use Rattle.rules.specs.Sleep.{slept, slept_caused, sleep_number, sleep_answer, places_of as slept_places, sleep_list}
 use Rattle.rules.specs.Trace.{steps_in, end_of, answers_of, bytes_number, run_bytes, run_bytes_answers}
 use Rattle.rules.specs.Images.{table_of, images_number}
-use Rattle.rules.specs.Laws.Counting.{repeated_keeps}
-use Rattle.rules.specs.Laws.Numbers.{both_done, else_done}
-use Rattle.rules.specs.Laws.Judge.{good, good_marking}
-use Rattle.rules.specs.Laws.Written.{number_done, bytes_written}
-use Rattle.rules.specs.Laws.Trace.{guarded_judged, end_judged}
-use Rattle.rules.specs.Demand3.Facts.{effect_judged, time_judged}
+use Rattle.rules.proofs.Laws.Counting.{repeated_keeps}
+use Rattle.rules.proofs.Laws.Numbers.{both_done, else_done}
+use Rattle.rules.proofs.Laws.Judge.{good, good_marking}
+use Rattle.rules.proofs.Laws.Written.{number_done, bytes_written}
+use Rattle.rules.proofs.Laws.Trace.{guarded_judged, end_judged}
+use Rattle.rules.proofs.Demand3.Facts.{effect_judged, time_judged}
 use Rattle.image.specs.Theorems.{fresh_accepted}
 use Rattle.duty.specs.Performing.{Fills}
 use Rattle.duty.specs.Laws.Images.{marking_long}

@@ -17,13 +17,13 @@ use Rattle.rules.specs.Judge.{events_fit, relations_fit, relation_number, table_
 use Rattle.rules.specs.Image.{table_length, table_image, write_table_number, write_table}
 use Rattle.rules.specs.Building.{relations_told, relation_from, numbers_number, table_from, build_number, build}
 use Rattle.rules.specs.Shapes.Good.{GoodRelation}
-use Rattle.rules.specs.Laws.Tests.{both, not_false}
-use Rattle.rules.specs.Laws.Numbers.{if_done, both_done, else_done, else_refused, else_joined, done_alike, first_same}
-use Rattle.rules.specs.Laws.Counting.{places_same}
-use Rattle.rules.specs.Laws.TableWith.{relation_with}
-use Rattle.rules.specs.Laws.Fields.{field_part, first_part, last_part, byte_field}
-use Rattle.rules.specs.Laws.Fit.{fit_few}
-use Rattle.rules.specs.Laws.Judge.{good_table}
+use Rattle.rules.proofs.Laws.Tests.{both, not_false}
+use Rattle.rules.proofs.Laws.Numbers.{if_done, both_done, else_done, else_refused, else_joined, done_alike, first_same}
+use Rattle.rules.proofs.Laws.Counting.{places_same}
+use Rattle.rules.proofs.Laws.TableWith.{relation_with}
+use Rattle.rules.proofs.Laws.Fields.{field_part, first_part, last_part, byte_field}
+use Rattle.rules.proofs.Laws.Fit.{fit_few}
+use Rattle.rules.proofs.Laws.Judge.{good_table}
 use Rattle.duty.specs.declared.building.Classes.{Classes}
 use Rattle.duty.specs.Making.{counts_number, class_number, is_controllable_in, is_causable_in, classes_from, held_relation, held_table}
 use Rattle.duty.specs.Laws.Answered.{left}

@@ -7,8 +7,8 @@ use Rattle.rules.specs.declared.Marking.{Marking}
 use Rattle.rules.specs.Judge.{judged}
 use Rattle.rules.specs.Time.{any_due}
 use Rattle.rules.specs.Remedy.{longest_list, shortest, remedy, stretch}
-use Rattle.rules.specs.Laws.Tests.{decide}
-use Rattle.rules.specs.Laws.Remedy.{shortest_empty, shortest_none, shortest_le, remedy_first, remedy_none}
+use Rattle.rules.proofs.Laws.Tests.{decide}
+use Rattle.rules.proofs.Laws.Remedy.{shortest_empty, shortest_none, shortest_le, remedy_first, remedy_none}
 
 module _ (t : Table) (m : Marking) (list : List ℕ) (h : judged t m ≡ 0) (short : length list ≤ longest_list) where
   -- a list without a start is refused

@@ -20,9 +20,9 @@ use Rattle.rules.specs.Time.{later, time}
 use Rattle.rules.specs.Remedy.{effects}
 use Rattle.rules.specs.History.{Act, executes, passes, after}
 use Rattle.rules.specs.Images.{table_of, marking_of, images_number, put_back}
-use Rattle.rules.specs.Laws.Counting.{length_places, places_at, length_each_below, each_below_kept}
-use Rattle.rules.specs.Laws.Numbers.{both_done}
-use Rattle.rules.specs.Laws.Judge.{good}
+use Rattle.rules.proofs.Laws.Counting.{length_places, places_at, length_each_below, each_below_kept}
+use Rattle.rules.proofs.Laws.Numbers.{both_done}
+use Rattle.rules.proofs.Laws.Judge.{good}
 use Rattle.image.specs.Theorems.{written_is_read, later_stay}
 use Rattle.duty.specs.Performing.{Fills}
 use Rattle.duty.specs.Laws.Images.{read_judged}

@@ -8,7 +8,7 @@ use Rattle.std.proofs.Math.ListN.{drop}
 use Rattle.rules.specs.Numbers.{◌if◌, ◌else◌}
 use Rattle.rules.specs.Holds.{record_of}
 use Rattle.rules.specs.Images.{record_fields, fields_number, fields_told}
-use Rattle.rules.specs.Laws.Judge.{good}
+use Rattle.rules.proofs.Laws.Judge.{good}
 use Rattle.duty.specs.declared.images.Images.{Images}
 use Rattle.duty.specs.Reading.{images}
 use Rattle.duty.specs.Laws.Answered.{left, judged_read}

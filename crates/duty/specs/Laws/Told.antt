@@ -15,8 +15,8 @@ use Rattle.rules.specs.Image.{read_table, class_byte}
 use Rattle.rules.specs.Images.{table_of}
 use Rattle.rules.specs.Building.{numbers_from, relation_told_number, relation_told, class_told_number}
 use Rattle.rules.specs.Shapes.Good.{GoodTable}
-use Rattle.rules.specs.Laws.Numbers.{if_done, both_done}
-use Rattle.rules.specs.Laws.Judge.{good_table}
+use Rattle.rules.proofs.Laws.Numbers.{if_done, both_done}
+use Rattle.rules.proofs.Laws.Judge.{good_table}
 use Rattle.image.specs.Theorems.{read_table_accepted, read_table_exact, class_is_byte}
 use Rattle.duty.specs.Laws.Answered.{left}
 

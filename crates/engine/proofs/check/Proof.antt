@@ -2,8 +2,8 @@
 use mathlib.Core.Path.{◌≡◌, ◌∙◌, sym, refl}
 use borrow.Author.Rules.{rules}
 use Rattle.rules.specs.Judge.{judged}
-use Rattle.rules.specs.Laws.InNumbers.{check_whole}
-use Rattle.rules.specs.Laws.Judge.{judged_by}
+use Rattle.rules.proofs.Laws.InNumbers.{check_whole}
+use Rattle.rules.proofs.Laws.Judge.{judged_by}
 use Rattle.acts.specs.Laws.Judging.{unused, table_good, few_records, some_events, laid_out}
 use Rattle.duties.specs.Laws.Checked.{check_judged, check_refused}
 use Rattle.engine.proofs.check.Statement.{statement}

@@ -9,7 +9,7 @@ use Rattle.rules.specs.EventSet.{size_of}
 use Rattle.rules.specs.Holds.{relation_of}
 use Rattle.rules.specs.Judge.{judged}
 use Rattle.rules.specs.Closure.{closure, closure_answer}
-use Rattle.rules.specs.Laws.Judge.{judged_by}
+use Rattle.rules.proofs.Laws.Judge.{judged_by}
 use Rattle.acts.specs.Laws.Derived.{left_small, right_small}
 use Rattle.duties.specs.Inhibition.{Followed, Answers}
 use Rattle.duties.specs.Laws.Noted.{followed_none, followed_more, answers_none, answers_more}

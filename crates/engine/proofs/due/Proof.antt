@@ -6,7 +6,7 @@ use borrow.Author.Tests.{ne_eqb}
 use Rattle.rules.specs.declared.SetAnswer.{SetAnswer}
 use Rattle.rules.specs.Judge.{judged}
 use Rattle.rules.specs.Time.{due_set, due_answer}
-use Rattle.rules.specs.Laws.Judge.{judged_by}
+use Rattle.rules.proofs.Laws.Judge.{judged_by}
 use Rattle.acts.specs.Laws.Judging.{unused, table_good, few_records, some_events, laid_out}
 use Rattle.engine.proofs.due.Statement.{statement}
 use Rattle.engine.proofs.due.Tie as tie

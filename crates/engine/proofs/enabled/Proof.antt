@@ -5,8 +5,8 @@ use borrow.Author.Rules.{rules}
 use Rattle.rules.specs.Numbers.{◌else◌}
 use Rattle.rules.specs.Judge.{judged, event_number}
 use Rattle.rules.specs.Enabled.{enabled_answer}
-use Rattle.rules.specs.Laws.Granted.{event_told}
-use Rattle.rules.specs.Laws.Judge.{judged_by, event_by}
+use Rattle.rules.proofs.Laws.Granted.{event_told}
+use Rattle.rules.proofs.Laws.Judge.{judged_by, event_by}
 use Rattle.engine.proofs.enabled.Statement.{statement}
 use Rattle.engine.proofs.enabled.Tie as tie
 

@@ -6,7 +6,7 @@ use Rattle.rules.specs.Judge.{judged}
 use Rattle.rules.specs.declared.CheckAnswer.TheVariants.{Accepts}
 use Rattle.rules.specs.Check.{verdict}
 use Rattle.rules.specs.Guard.{caused, guarded}
-use Rattle.rules.specs.Laws.Judge.{judged_by}
+use Rattle.rules.proofs.Laws.Judge.{judged_by}
 use Rattle.acts.specs.Laws.Judging.{unused, table_good, few_records, some_events, laid_out, given_back}
 use Rattle.acts.specs.Laws.Happen.{head_firm}
 use Rattle.duties.specs.Laws.Taking.{answered_is}

@@ -7,7 +7,7 @@ use Rattle.rules.specs.Numbers.{done}
 use Rattle.rules.specs.Judge.{judged}
 use Rattle.rules.specs.Effect.{effect}
 use Rattle.rules.specs.Happen.{happen_number}
-use Rattle.rules.specs.Laws.Judge.{judged_by}
+use Rattle.rules.proofs.Laws.Judge.{judged_by}
 use Rattle.acts.specs.Stands.{Stands}
 use Rattle.engine.specs.Laws.Judging.{acted_done, acted_refused}
 use Rattle.acts.specs.Laws.Judging.{unused, table_good, few_records, laid_out, given_back}

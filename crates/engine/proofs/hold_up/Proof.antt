@@ -5,9 +5,9 @@ use borrow.Author.Rules.{rules}
 use Rattle.rules.specs.Numbers.{◌else◌}
 use Rattle.rules.specs.Judge.{judged, event_number}
 use Rattle.rules.specs.HoldUp.{hold_up}
-use Rattle.rules.specs.Laws.Granted.{event_told}
-use Rattle.rules.specs.Laws.InNumbers.{hold_up_whole}
-use Rattle.rules.specs.Laws.Judge.{judged_by, event_by}
+use Rattle.rules.proofs.Laws.Granted.{event_told}
+use Rattle.rules.proofs.Laws.InNumbers.{hold_up_whole}
+use Rattle.rules.proofs.Laws.Judge.{judged_by, event_by}
 use Rattle.engine.proofs.hold_up.Statement.{statement}
 use Rattle.engine.proofs.hold_up.Tie as tie
 

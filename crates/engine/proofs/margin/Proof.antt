@@ -10,9 +10,9 @@ use Rattle.rules.specs.Numbers.{◌if◌}
 use Rattle.rules.specs.Judge.{judged}
 use Rattle.rules.specs.Margin.{margin}
 use Rattle.rules.specs.Shapes.Good.{Good}
-use Rattle.rules.specs.Laws.Judge.{good, judged_by}
-use Rattle.rules.specs.Laws.Granted.{right_told, margin_told_lem, stands}
-use Rattle.rules.specs.Laws.InNumbers.{margin_whole}
+use Rattle.rules.proofs.Laws.Judge.{good, judged_by}
+use Rattle.rules.proofs.Laws.Granted.{right_told, margin_told_lem, stands}
+use Rattle.rules.proofs.Laws.InNumbers.{margin_whole}
 use Rattle.engine.proofs.margin.Statement.{statement}
 use Rattle.engine.proofs.margin.Tie as tie
 

@@ -4,7 +4,7 @@ use native.Mathlib.Omega.{arith}
 use borrow.Author.Rules.{rules}
 use Rattle.rules.specs.Judge.{judged}
 use Rattle.rules.specs.Time.{due_set, time}
-use Rattle.rules.specs.Laws.Judge.{judged_by}
+use Rattle.rules.proofs.Laws.Judge.{judged_by}
 use Rattle.acts.specs.Laws.Due.{tick_goes, tick_held}
 use Rattle.engine.specs.Laws.Judging.{acted_done, acted_refused}
 use Rattle.acts.specs.Laws.Judging.{unused, table_good, few_records, some_events, laid_out, given_back}

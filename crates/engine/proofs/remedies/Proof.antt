@@ -10,8 +10,8 @@ use Rattle.rules.specs.declared.Marking.{Marking}
 use Rattle.rules.specs.Judge.{judged}
 use Rattle.rules.specs.Time.{due_set}
 use Rattle.rules.specs.Remedy.{shortest}
-use Rattle.rules.specs.Laws.Remedy.{remedy_judged, remedy_first_long, remedy_second_long, remedy_first, remedy_second, remedy_none}
-use Rattle.rules.specs.Laws.Judge.{judged_by}
+use Rattle.rules.proofs.Laws.Remedy.{remedy_judged, remedy_first_long, remedy_second_long, remedy_first, remedy_second, remedy_none}
+use Rattle.rules.proofs.Laws.Judge.{judged_by}
 use Rattle.engine.specs.Trial.{Tried}
 use Rattle.acts.specs.Laws.Judging.{unused, table_good, few_records, some_events, laid_out}
 use Rattle.engine.specs.Laws.Trial.{start_found, none_found}

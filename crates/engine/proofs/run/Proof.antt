@@ -59,7 +59,7 @@ use Rattle.rules.specs.declared.MarkingAnswer.{MarkingAnswer}
 use Rattle.rules.specs.declared.Step.{Step}
 use Rattle.rules.specs.Trace.{run as run_of, run_answers}
 use Rattle.rules.specs.Shapes.Good.{GoodTable}
-use Rattle.rules.specs.Laws.Trace.{no_step_lem}
+use Rattle.rules.proofs.Laws.Trace.{no_step_lem}
 use Rattle.engine.specs.declared.trace.Running.{Running}
 use Rattle.engine.specs.declared.trace.Words.{Words}
 use Rattle.acts.specs.Derived.{Derived, Linked}

@@ -2,7 +2,7 @@
 use mathlib.Core.Path.{ap, sym, ◌∙◌}
 use lib.ListN.{length}
 use Rattle.rules.specs.declared.Marking.{Marking}
-use Rattle.rules.specs.Laws.Trace.{bytes_granted, bytes_done, bytes_refused}
+use Rattle.rules.proofs.Laws.Trace.{bytes_granted, bytes_done, bytes_refused}
 use borrow.Author.Rules.{rules}
 use Rattle.engine.proofs.run_bytes.Statement.{statement}
 use Rattle.engine.proofs.run_bytes.Tie as tie

@@ -1,6 +1,6 @@
 -- A refusal leaves the output; else the whole input is heard, and what was told is what is written. Assumes nothing.
 use mathlib.Core.Path.{◌∙◌, sym}
-use Rattle.rules.specs.Laws.Station.{heard_granted}
+use Rattle.rules.proofs.Laws.Station.{heard_granted}
 use Rattle.engine.specs.Laws.Heard.{call_refused, call_done}
 use borrow.Author.Rules.{rules}
 use Rattle.engine.proofs.station.Statement.{statement}

@@ -23,15 +23,15 @@ use Rattle.rules.specs.Judge.{events_fit, table_number, marking_number, marking_
 use Rattle.rules.specs.Image.{record_bytes, events_in, read_table, read_marking, marking_image, write_number, write_marking}
 use Rattle.rules.specs.Trace.{most_steps, trace_number, steps_in, end_of, answers_of}
 use Rattle.rules.specs.Station.{table_bytes, station, longest_marking, longest_steps, longest_input, longest_output, heard_number, heard_bytes, heard_output}
-use Rattle.rules.specs.Laws.Tests.{decide}
-use Rattle.rules.specs.Laws.Numbers.{both_done}
-use Rattle.rules.specs.Laws.Judge.{good}
-use Rattle.rules.specs.Laws.Fields.{field_lt, field_join, byte_field}
-use Rattle.rules.specs.Laws.Trace.{answers_length, steps_length, end_judged, bytes_granted}
+use Rattle.rules.proofs.Laws.Tests.{decide}
+use Rattle.rules.proofs.Laws.Numbers.{both_done}
+use Rattle.rules.proofs.Laws.Judge.{good}
+use Rattle.rules.proofs.Laws.Fields.{field_lt, field_join, byte_field}
+use Rattle.rules.proofs.Laws.Trace.{answers_length, steps_length, end_judged, bytes_granted}
 use Rattle.rules.specs.Station.{table_part, marking_part, steps_part}
-use Rattle.rules.specs.Laws.Station.{number_of, station_number, station_is, too_long, granted_short, header_small}
-use Rattle.rules.specs.Laws.Station.{field_take, table_events, table_short, table_same, events_same, number_by, steps_left, heard_enough, heard_within}
-use Rattle.rules.specs.Laws.Written.{image_length, number_done, bytes_written}
+use Rattle.rules.proofs.Laws.Station.{number_of, station_number, station_is, too_long, granted_short, header_small}
+use Rattle.rules.proofs.Laws.Station.{field_take, table_events, table_short, table_same, events_same, number_by, steps_left, heard_enough, heard_within}
+use Rattle.rules.proofs.Laws.Written.{image_length, number_done, bytes_written}
 use Rattle.engine.specs.Heard.{after_marking, after_table}
 use Rattle.duties.specs.AtStart.{AtStart}
 

@@ -10,7 +10,7 @@ use Rattle.rules.specs.Judge.{judged}
 use Rattle.rules.specs.Effect.{effect}
 use Rattle.rules.specs.Happen.{happen_number, happen}
 use Rattle.rules.specs.Time.{time, plain_tick, plain_tick_number}
-use Rattle.rules.specs.Laws.Granted.{stands}
+use Rattle.rules.proofs.Laws.Granted.{stands}
 
 -- an answer of a call that acts: its number, and the marking where it is done
 abbrev pub acted : ℕ → Marking → Marking → MarkingAnswer

@@ -15,16 +15,16 @@ use Rattle.rules.specs.Numbers.{◌if◌, ◌else◌, done, check_number}
 use Rattle.rules.specs.Judge.{judged}
 use Rattle.rules.specs.Check.{verdict}
 use Rattle.rules.specs.Trace.{step_number, stepped, trace_number, run, run_answers, end_of, answers_of, steps_in}
-use Rattle.rules.specs.Laws.Tests.{clash, both, either}
-use Rattle.rules.specs.Laws.Numbers.{both_done}
+use Rattle.rules.proofs.Laws.Tests.{clash, both, either}
+use Rattle.rules.proofs.Laws.Numbers.{both_done}
 use Rattle.rules.specs.Shapes.Good.{GoodTable}
-use Rattle.rules.specs.Laws.Judge.{good}
-use Rattle.rules.specs.Laws.Trace.{turned, stepped_judged, no_step_lem, steps_length, steps_at, After, after_none, after_more, after_all, trace_granted}
-use Rattle.rules.specs.Demand3.Accepts.{check_parts, check_accepts}
-use Rattle.rules.specs.Demand3.Statements.{still_accepts as accepts-on}
+use Rattle.rules.proofs.Laws.Judge.{good}
+use Rattle.rules.proofs.Laws.Trace.{turned, stepped_judged, no_step_lem, steps_length, steps_at, After, after_none, after_more, after_all, trace_granted}
+use Rattle.rules.proofs.Demand3.Accepts.{check_parts, check_accepts}
+use Rattle.rules.proofs.Demand3.Statements.{still_accepts as accepts-on}
 use Rattle.engine.specs.declared.trace.Running.{Running}
 use Rattle.engine.specs.Running.{begun_run, further_run, Fit}
-use Rattle.rules.specs.Laws.Check.{verdict_done}
+use Rattle.rules.proofs.Laws.Check.{verdict_done}
 
 -- What holds between two steps is kept. Judged values stay judged; a guarded tick that is done shows that the check accepts, and from there
 -- it accepts whatever the steps are (demand 3).

@@ -12,11 +12,11 @@ use Rattle.rules.specs.Effect.{effect}
 use Rattle.rules.specs.Time.{any_due, due_set}
 use Rattle.rules.specs.Remedy.{shortest}
 use Rattle.rules.specs.Shapes.Good.{GoodTable}
-use Rattle.rules.specs.Laws.Judge.{good}
-use Rattle.rules.specs.Laws.Tests.{both}
-use Rattle.rules.specs.Laws.Time.{none_due_yet, some_due_still}
+use Rattle.rules.proofs.Laws.Judge.{good}
+use Rattle.rules.proofs.Laws.Tests.{both}
+use Rattle.rules.proofs.Laws.Time.{none_due_yet, some_due_still}
 use Rattle.rules.specs.Shapes.Tried.{may_cause}
-use Rattle.rules.specs.Laws.Remedy.{TriedSoFar, passed_none, passed_more, found_here, found_none, stuck_here}
+use Rattle.rules.proofs.Laws.Remedy.{TriedSoFar, passed_none, passed_more, found_here, found_none, stuck_here}
 use Rattle.acts.specs.declared.derived.Head.{Head}
 use Rattle.acts.specs.Derived.{firm_set, head_of, Own, Derived, Linked}
 use Rattle.acts.specs.Stands.{Stands}

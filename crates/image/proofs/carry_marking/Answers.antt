@@ -8,7 +8,7 @@ use Rattle.rules.specs.declared.Marking.{Marking}
 use Rattle.rules.specs.Judge.{events_fit}
 use Rattle.rules.specs.Image.{write_number, write_marking}
 use Rattle.rules.specs.Carrying.{carry_number, carry_marking}
-use Rattle.rules.specs.Laws.Fit.{fit_few}
+use Rattle.rules.proofs.Laws.Fit.{fit_few}
 use Rattle.image.specs.Laws.Carried.{Carriable, carry_number_lem, carry_bytes}
 use Rattle.image.proofs.carry_marking.Goals as goal
 

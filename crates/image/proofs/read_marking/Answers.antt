@@ -5,7 +5,7 @@ use native.Mathlib.Omega.{arith}
 use borrow.Author.Tests.{eq-eqb, ne_eqb}
 use Rattle.rules.specs.Judge.{events_fit}
 use Rattle.rules.specs.Image.{read_marking, marking_image_number}
-use Rattle.rules.specs.Laws.Fit.{fit_few}
+use Rattle.rules.proofs.Laws.Fit.{fit_few}
 use Rattle.image.proofs.read_marking.Goals as goal
 
 pub returns-then-not-events_fit : goal.returns-then-not-events_fit

@@ -10,7 +10,7 @@ use Rattle.rules.specs.EventSet.{set_of}
 use Rattle.rules.specs.Holds.{most_relations}
 use Rattle.rules.specs.Judge.{events_fit}
 use Rattle.rules.specs.Image.{events_in, relations_in, firm_in, header_spare, table_length}
-use Rattle.rules.specs.Laws.Fit.{fit_few}
+use Rattle.rules.proofs.Laws.Fit.{fit_few}
 use Rattle.image.specs.declared.table.Classes.{Classes}
 use Rattle.image.specs.Parts.{class_number, is_controllable_in, is_causable_in, classes_read}
 use Rattle.image.specs.Laws.Tables.{header_events, header_relations, header_firm, header_spare_lem, ends_short, ends_spare, ends_events, ends_relations}

@@ -5,7 +5,7 @@ use lib.ListN.{length}
 use Rattle.rules.specs.Judge.{marking_number}
 use Rattle.rules.specs.Image.{write_number}
 use Rattle.image.specs.Laws.Parts.{events_few}
-use Rattle.rules.specs.Laws.Written.{number_refused, number_short, number_done, bytes_kept, bytes_written}
+use Rattle.rules.proofs.Laws.Written.{number_refused, number_short, number_done, bytes_kept, bytes_written}
 use Rattle.image.proofs.write_marking.Goals as goal
 
 pub returns-then-number-ne0 : goal.returns-then-number-ne0

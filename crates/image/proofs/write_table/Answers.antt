@@ -4,8 +4,8 @@ use native.Mathlib.Omega.{arith}
 use lib.ListN.{length}
 use Rattle.rules.specs.Judge.{table_number}
 use Rattle.rules.specs.Image.{write_table_number}
-use Rattle.rules.specs.Laws.Judge.{good_table}
-use Rattle.rules.specs.Laws.Written.{table_number_refused, table_number_short, table_number_done, table_bytes_kept, table_bytes_written}
+use Rattle.rules.proofs.Laws.Judge.{good_table}
+use Rattle.rules.proofs.Laws.Written.{table_number_refused, table_number_short, table_number_done, table_bytes_kept, table_bytes_written}
 use Rattle.image.proofs.write_table.Goals as goal
 
 pub returns-then-number-ne0 : goal.returns-then-number-ne0

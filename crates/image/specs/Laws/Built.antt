@@ -19,12 +19,12 @@ use Rattle.rules.specs.Image.{table_length, read_table, class_byte, write_table_
 use Rattle.rules.specs.Images.{table_of}
 use Rattle.rules.specs.Building.{relations_told, number_in, relation_from, numbers_number, table_from, build_number, build, numbers_from}
 use Rattle.rules.specs.Building.{Tells, relation_told_number, relation_told, class_told_number}
-use Rattle.rules.specs.Laws.Tests.{both}
-use Rattle.rules.specs.Laws.Counting.{places_same}
-use Rattle.rules.specs.Laws.TableWith.{relation_with, with_done, with_unused}
-use Rattle.rules.specs.Laws.EventSet.{set_has, set_same_test}
-use Rattle.rules.specs.Laws.Numbers.{if_done, both_done, first_each, first_done}
-use Rattle.rules.specs.Laws.Fields.{flag_bit, bit_flag, bit_lt, byte_field}
+use Rattle.rules.proofs.Laws.Tests.{both}
+use Rattle.rules.proofs.Laws.Counting.{places_same}
+use Rattle.rules.proofs.Laws.TableWith.{relation_with, with_done, with_unused}
+use Rattle.rules.proofs.Laws.EventSet.{set_has, set_same_test}
+use Rattle.rules.proofs.Laws.Numbers.{if_done, both_done, first_each, first_done}
+use Rattle.rules.proofs.Laws.Fields.{flag_bit, bit_flag, bit_lt, byte_field}
 use Rattle.image.specs.Laws.TableWords.{class_fits, class_back, class_again}
 
 -- what a build that is done was told

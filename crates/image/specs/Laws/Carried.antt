@@ -17,10 +17,10 @@ use Rattle.rules.specs.Fields.{flag, bit, bytes_of}
 use Rattle.rules.specs.Judge.{events_fit, state_fits, count_fits_lem, record_fits, record_number, marking_number}
 use Rattle.rules.specs.Image.{record_bytes, state_at, record_image, event_image, marking_image, write_number, write_marking}
 use Rattle.rules.specs.Carrying.{old_record_bytes, old_record_bit, carried_at, carried, carry_number, carry_marking}
-use Rattle.rules.specs.Laws.Tests.{decide}
-use Rattle.rules.specs.Laws.Fields.{bytes_of_word}
-use Rattle.rules.specs.Laws.Numbers.{if_done, both_done, done_alike, first_same, first_some}
-use Rattle.rules.specs.Laws.Written.{bytes_written}
+use Rattle.rules.proofs.Laws.Tests.{decide}
+use Rattle.rules.proofs.Laws.Fields.{bytes_of_word}
+use Rattle.rules.proofs.Laws.Numbers.{if_done, both_done, done_alike, first_same, first_some}
+use Rattle.rules.proofs.Laws.Written.{bytes_written}
 use Rattle.image.specs.Laws.Packed.{room, state_read, record_bytes_lem}
 use Rattle.image.specs.Laws.Parts.{record_done}
 use Rattle.image.specs.Laws.Round.{record_from}

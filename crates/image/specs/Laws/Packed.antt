@@ -12,10 +12,10 @@ use Rattle.rules.specs.Fields.{field, flag, bit, bytes_of, ◌▸◌, ◌∶◌}
 use Rattle.rules.specs.Judge.{state_fits, record_fits, record_number}
 use Rattle.rules.specs.Image.{relation_at, relation_image, state_at, record_at, record_bytes, record_image}
 use Rattle.rules.specs.Carrying.{carried_at}
-use Rattle.rules.specs.Laws.Tests.{both, not_false}
-use Rattle.rules.specs.Laws.Numbers.{if_done}
-use Rattle.rules.specs.Laws.Fit.{fits_parts, count_small}
-use Rattle.rules.specs.Laws.Fields.{field_lt, field_join, field_part, first_part, last_part, field_ends, bytes_joined, flag_bit, bit_flag, bit_lt}
+use Rattle.rules.proofs.Laws.Tests.{both, not_false}
+use Rattle.rules.proofs.Laws.Numbers.{if_done}
+use Rattle.rules.proofs.Laws.Fit.{fits_parts, count_small}
+use Rattle.rules.proofs.Laws.Fields.{field_lt, field_join, field_part, first_part, last_part, field_ends, bytes_joined, flag_bit, bit_flag, bit_lt}
 use Rattle.image.specs.Packed.{relation_of_word, word_of_relation, record_of_word, word_of_record, whole_of_record}
 
 -- a flag as the machine has it

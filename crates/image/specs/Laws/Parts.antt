@@ -12,12 +12,12 @@ use Rattle.rules.specs.Judge.{events_fit, record_number, marking_number}
 use Rattle.rules.specs.Pieces.{pieces}
 use Rattle.rules.specs.Image.{class_bit, class_spare, relation_spare, header_image, class_byte, class_image, relation_image, place_image, table_image}
 use Rattle.rules.specs.Image.{table_length, FieldsHold}
-use Rattle.rules.specs.Laws.Tests.{not_false}
-use Rattle.rules.specs.Laws.Numbers.{if_done, both_done, first_each}
-use Rattle.rules.specs.Laws.Fields.{field_part, first_part, last_part, bytes_joined, bit_lt}
-use Rattle.rules.specs.Laws.Fit.{fit_few}
-use Rattle.rules.specs.Laws.Pieces.{put_behind, pieces_length}
-use Rattle.rules.specs.Laws.Written.{header_length, classes_sized}
+use Rattle.rules.proofs.Laws.Tests.{not_false}
+use Rattle.rules.proofs.Laws.Numbers.{if_done, both_done, first_each}
+use Rattle.rules.proofs.Laws.Fields.{field_part, first_part, last_part, bytes_joined, bit_lt}
+use Rattle.rules.proofs.Laws.Fit.{fit_few}
+use Rattle.rules.proofs.Laws.Pieces.{put_behind, pieces_length}
+use Rattle.rules.proofs.Laws.Written.{header_length, classes_sized}
 use Rattle.image.specs.Packed.{word_of_relation, ends_word, header_word}
 use Rattle.image.specs.Parts.{is_controllable_in, is_causable_in}
 

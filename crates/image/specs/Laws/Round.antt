@@ -13,11 +13,11 @@ use Rattle.rules.specs.Holds.{most_events, record_of, empty_record}
 use Rattle.rules.specs.Fields.{field, bytes_of}
 use Rattle.rules.specs.Judge.{events_fit, record_number, marking_number, marking_number_for}
 use Rattle.rules.specs.Image.{record_bytes, record_at, record_bit, event_image, marking_image, marking_from, marking_image_number, read_marking}
-use Rattle.rules.specs.Laws.Counting.{length_places, places_at}
-use Rattle.rules.specs.Laws.Numbers.{if_done, both_done, first_each, first_done}
-use Rattle.rules.specs.Laws.Fields.{bytes_of_word}
-use Rattle.rules.specs.Laws.Pieces.{piece_word, pieces_whole}
-use Rattle.rules.specs.Laws.Written.{records_sized, image_length}
+use Rattle.rules.proofs.Laws.Counting.{length_places, places_at}
+use Rattle.rules.proofs.Laws.Numbers.{if_done, both_done, first_each, first_done}
+use Rattle.rules.proofs.Laws.Fields.{bytes_of_word}
+use Rattle.rules.proofs.Laws.Pieces.{piece_word, pieces_whole}
+use Rattle.rules.proofs.Laws.Written.{records_sized, image_length}
 use Rattle.image.specs.Packed.{whole_of_record}
 use Rattle.image.specs.Laws.Packed.{image_word, room, whole_fits, record_back, whole_read}
 use Rattle.image.specs.Laws.Parts.{record_done}

@@ -18,13 +18,13 @@ use Rattle.rules.specs.Judge.{events_fit, relations_fit, relation_number, table_
 use Rattle.rules.specs.Image.{events_in, relations_in, firm_in, header_spare, class_bit, class_spare, relation_bit, relation_at, relation_spare, table_length}
 use Rattle.rules.specs.Image.{relation_image_number, table_image_number, table_in, read_table, header_image, class_byte, class_image, place_image}
 use Rattle.rules.specs.Image.{table_image, ImageHolds, unused_empty}
-use Rattle.rules.specs.Laws.Counting.{places_same}
-use Rattle.rules.specs.Laws.EventSet.{set_has, set_same_test}
-use Rattle.rules.specs.Laws.Numbers.{if_done, both_done, first_each, first_done, first_same}
-use Rattle.rules.specs.Laws.Fields.{bytes_of_word, word_of_bytes}
-use Rattle.rules.specs.Laws.Pieces.{pieces_length, piece_word, pieces_whole}
-use Rattle.rules.specs.Laws.TableWith.{relation_with, with_done, with_unused}
-use Rattle.rules.specs.Laws.Written.{classes_sized, places_sized, header_length, table_image_length, table_held}
+use Rattle.rules.proofs.Laws.Counting.{places_same}
+use Rattle.rules.proofs.Laws.EventSet.{set_has, set_same_test}
+use Rattle.rules.proofs.Laws.Numbers.{if_done, both_done, first_each, first_done, first_same}
+use Rattle.rules.proofs.Laws.Fields.{bytes_of_word, word_of_bytes}
+use Rattle.rules.proofs.Laws.Pieces.{pieces_length, piece_word, pieces_whole}
+use Rattle.rules.proofs.Laws.TableWith.{relation_with, with_done, with_unused}
+use Rattle.rules.proofs.Laws.Written.{classes_sized, places_sized, header_length, table_image_length, table_held}
 use Rattle.image.specs.Packed.{word_of_relation, header_word}
 use Rattle.image.specs.Parts.{class_number, is_controllable_in, is_causable_in}
 use Rattle.image.specs.Laws.Packed.{relation_word}

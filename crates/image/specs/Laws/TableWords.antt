@@ -6,7 +6,7 @@ use Rattle.rules.specs.declared.Relation.{Relation}
 use Rattle.rules.specs.declared.Table.{Table}
 use Rattle.rules.specs.Fields.{field, flag, ◌▸◌, ◌∶◌, bit, bytes_of}
 use Rattle.rules.specs.Image.{events_in, relations_in, firm_in, header_spare, relation_at, relation_spare, header_image, class_byte, class_image, FieldsHold}
-use Rattle.rules.specs.Laws.Fields.{field_lt, field_join, field_ends, flag_bit, bit_flag, bit_lt}
+use Rattle.rules.proofs.Laws.Fields.{field_lt, field_join, field_ends, flag_bit, bit_flag, bit_lt}
 use Rattle.image.specs.Packed.{word_of_relation, header_word}
 
 -- the bytes of a header and of a class are those of one number; of a relation: `Packed`

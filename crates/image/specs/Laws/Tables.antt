@@ -11,7 +11,7 @@ use Rattle.rules.specs.Holds.{most_relations, empty_table}
 use Rattle.rules.specs.Fields.{field}
 use Rattle.rules.specs.Judge.{events_fit}
 use Rattle.rules.specs.Image.{events_in, relations_in, firm_in, header_spare, table_length, table_image_number, table_in, read_table}
-use Rattle.rules.specs.Laws.Fields.{field_part, first_part, last_part}
+use Rattle.rules.proofs.Laws.Fields.{field_part, first_part, last_part}
 use Rattle.image.specs.Parts.{class_number, is_controllable_in, is_causable_in, relations_read}
 
 abbrev pub refused_with : ℕ → TableAnswer

@@ -8,7 +8,7 @@ use Rattle.rules.specs.declared.TicksAnswer.{TicksAnswer}
 use Rattle.rules.specs.Judge.{judged}
 use Rattle.rules.specs.Sleep.{most_ticks}
 use Rattle.rules.specs.Quiet.{quiet_ticks, quiet_answer}
-use Rattle.rules.specs.Laws.Judge.{judged_by}
+use Rattle.rules.proofs.Laws.Judge.{judged_by}
 use Rattle.acts.specs.Laws.Judging.{unused, table_good, few_records, some_events, laid_out}
 use Rattle.sleep.proofs.quiet.Statement.{statement}
 use Rattle.sleep.proofs.quiet.Tie as tie

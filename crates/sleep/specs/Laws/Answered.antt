@@ -13,9 +13,9 @@ use Rattle.rules.specs.Numbers.{◌else◌}
 use Rattle.rules.specs.Judge.{judged}
 use Rattle.rules.specs.Check.{reason, verdict}
 use Rattle.rules.specs.Sleep.{most_ticks, slept, slept_caused, sleep_number, sleep_answer, place_of, places_of, sleep_list}
-use Rattle.rules.specs.Laws.Numbers.{else_refused}
-use Rattle.rules.specs.Laws.Check.{Said, verdict_said}
-use Rattle.rules.specs.Laws.Sleep.{early_number, early_grants, checked, unchecked}
+use Rattle.rules.proofs.Laws.Numbers.{else_refused}
+use Rattle.rules.proofs.Laws.Check.{Said, verdict_said}
+use Rattle.rules.proofs.Laws.Sleep.{early_number, early_grants, checked, unchecked}
 use Rattle.sleep.specs.Passing.{refused_answer, put}
 
 -- values for which the list has room stand in its first places

@@ -16,8 +16,8 @@ use Rattle.rules.specs.Time.{any_due, time}
 use Rattle.rules.specs.Guard.{caused, guarded}
 use Rattle.rules.specs.Sleep.{slept, Entry, entry, slept_caused, place_of, places_of, moved}
 use Rattle.rules.specs.Quiet.{quiet_ticks}
-use Rattle.rules.specs.Laws.Counting.{lowest_before, length_places, places_more, places_at, map_at}
-use Rattle.rules.specs.Laws.Sleep.{slept_adds, caused_adds, quiet_run}
+use Rattle.rules.proofs.Laws.Counting.{lowest_before, length_places, places_more, places_at, map_at}
+use Rattle.rules.proofs.Laws.Sleep.{slept_adds, caused_adds, quiet_run}
 use Rattle.acts.specs.declared.derived.Head.{Head}
 use Rattle.acts.specs.Stands.{Stands}
 use Rattle.acts.specs.Laws.Stands.{stands_events}

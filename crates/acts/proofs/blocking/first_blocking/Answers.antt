@@ -2,8 +2,8 @@
 use mathlib.Core.Path.{◌≡◌, ◌∙◌, sym}
 use native.Mathlib.Omega.{arith}
 use borrow.Author.Rules.{rules}
-use Rattle.rules.specs.Laws.Granted.{right_told}
-use Rattle.rules.specs.Laws.Counting.{lowest_more, lowest_here}
+use Rattle.rules.proofs.Laws.Granted.{right_told}
+use Rattle.rules.proofs.Laws.Counting.{lowest_more, lowest_here}
 use Rattle.acts.specs.Blocking.{blocks_as}
 use Rattle.acts.proofs.blocking.first_blocking.Goals as goal
 

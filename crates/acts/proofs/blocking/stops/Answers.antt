@@ -3,7 +3,7 @@ use mathlib.Core.Path.{◌≡◌}
 use mathlib.Core.Bool.{true, ◌||◌}
 use borrow.Author.Tests.{ne_eqb}
 use Rattle.rules.specs.Enabled.{stops}
-use Rattle.rules.specs.Laws.Tests.{or_left, or_right, or_false}
+use Rattle.rules.proofs.Laws.Tests.{or_left, or_right, or_false}
 use Rattle.acts.specs.Laws.Blocking.{stops_as}
 use Rattle.acts.proofs.blocking.stops.Goals as goal
 use Rattle.acts.proofs.blocking.stops.Goals.{then-returned-via-then-returned, then-returned-via-else-returned+then-r}

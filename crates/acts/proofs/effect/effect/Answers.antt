@@ -1,7 +1,7 @@
 -- First the event is cleared, then the sets by their members, then the walk.
 use mathlib.Core.Path.{◌∙◌}
-use Rattle.rules.specs.Laws.Bitwise.{has_one}
-use Rattle.rules.specs.Laws.Time.{one_shifted}
+use Rattle.rules.proofs.Laws.Bitwise.{has_one}
+use Rattle.rules.proofs.Laws.Time.{one_shifted}
 use Rattle.acts.specs.Laws.Effected.{effect_stands}
 use Rattle.acts.proofs.effect.effect.Goals as goal
 

@@ -1,5 +1,5 @@
 -- By the members of the words.
-use Rattle.rules.specs.Laws.Bitwise.{has_or}
+use Rattle.rules.proofs.Laws.Bitwise.{has_or}
 use Rattle.acts.proofs.effect.included_after.Goals as goal
 
 pub returns : goal.returns

@@ -1,5 +1,5 @@
 -- By the members of the words.
-use Rattle.rules.specs.Laws.Bitwise.{has_and}
+use Rattle.rules.proofs.Laws.Bitwise.{has_and}
 use Rattle.acts.proofs.effect.kept_dates.Goals as goal
 
 pub returns : goal.returns

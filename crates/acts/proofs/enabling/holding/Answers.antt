@@ -2,7 +2,7 @@
 use borrow.Author.Tests.{lt-ltb, le-ltb}
 use borrow.Author.Rules.{rules}
 use Rattle.rules.specs.HoldUp.{hold_up_of}
-use Rattle.rules.specs.Laws.Counting.{lowest_zero}
+use Rattle.rules.proofs.Laws.Counting.{lowest_zero}
 use Rattle.acts.specs.Laws.Blocking.{lowest_now, lowest_returned, none_before, none_blocks}
 use Rattle.acts.proofs.enabling.holding.Goals as goal
 

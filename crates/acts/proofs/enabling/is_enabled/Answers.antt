@@ -1,7 +1,7 @@
 -- Included, and no relation blocks: the lowest that blocks is not below the count.
 use borrow.Author.Rules.{rules}
 use Rattle.rules.specs.Enabled.{is_enabled}
-use Rattle.rules.specs.Laws.Counting.{lowest_zero, lowest_some}
+use Rattle.rules.proofs.Laws.Counting.{lowest_zero, lowest_some}
 use Rattle.acts.specs.Laws.Blocking.{lowest_now}
 use Rattle.acts.proofs.enabling.is_enabled.Goals as goal
 

@@ -6,9 +6,9 @@ use native.Mathlib.Nat.{zero-mul}
 use mir.Val.{bool_byte}
 use lib.Dec.{eqb}
 use Rattle.rules.specs.EventSet.{has}
-use Rattle.rules.specs.Laws.EventSet.{has_zero}
-use Rattle.rules.specs.Laws.Bitwise.{has_or, has_one}
-use Rattle.rules.specs.Laws.Time.{one_shifted}
+use Rattle.rules.proofs.Laws.EventSet.{has_zero}
+use Rattle.rules.proofs.Laws.Bitwise.{has_or, has_one}
+use Rattle.rules.proofs.Laws.Time.{one_shifted}
 use Rattle.acts.proofs.laid.with_if.Goals as goal
 
 -- the word of one event, or of none

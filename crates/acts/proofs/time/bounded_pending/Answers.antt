@@ -1,5 +1,5 @@
 -- The members of four words.
-use Rattle.rules.specs.Laws.Bitwise.{has_and}
+use Rattle.rules.proofs.Laws.Bitwise.{has_and}
 use Rattle.acts.proofs.time.bounded_pending.Goals as goal
 
 pub returns : goal.returns

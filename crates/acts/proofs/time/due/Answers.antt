@@ -3,8 +3,8 @@ use mathlib.Core.Path.{◌∙◌, ap}
 use mathlib.Core.Bool.{Bool, ◌&&◌}
 use native.Mathlib.Omega.{arith}
 use Rattle.rules.specs.EventSet.{has}
-use Rattle.rules.specs.Laws.Counting.{Found}
-use Rattle.rules.specs.Laws.Time.{one_shifted}
+use Rattle.rules.proofs.Laws.Counting.{Found}
+use Rattle.rules.proofs.Laws.Time.{one_shifted}
 use Rattle.acts.specs.Laws.Members.{lowest_found, lowest_worth, lowest_less}
 use Rattle.acts.specs.Laws.Each.{chosen_start, chosen_end}
 use Rattle.acts.specs.Laws.Due.{is_over, due_is, chosen_more}

@@ -3,8 +3,8 @@ use mathlib.Core.Path.{◌≡◌, ◌∙◌, subst}
 use Prim.Native.Nat.{◌+◌, ◌-◌}
 use native.Mathlib.Omega.{arith}
 use Rattle.rules.specs.EventSet.{has}
-use Rattle.rules.specs.Laws.Counting.{Found}
-use Rattle.rules.specs.Laws.Time.{one_shifted}
+use Rattle.rules.proofs.Laws.Counting.{Found}
+use Rattle.rules.proofs.Laws.Time.{one_shifted}
 use Rattle.acts.specs.Laws.Members.{lowest_found, lowest_worth, lowest_less}
 use Rattle.acts.specs.Laws.Quiet.{Nearest, nearest_start, nearest_more, nearest_quiet}
 use Rattle.acts.proofs.time.quiet.Goals as goal

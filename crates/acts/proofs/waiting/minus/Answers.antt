@@ -5,7 +5,7 @@ use native.Mathlib.Omega.{arith}
 use mir.Syntax.{w32}
 use mir.Facts.{to_z_pos, to_z-of_z}
 use Rattle.rules.specs.Holds.{limit}
-use Rattle.rules.specs.Laws.Margin.{minus_range}
+use Rattle.rules.proofs.Laws.Margin.{minus_range}
 use Rattle.acts.proofs.waiting.minus.Goals as goal
 
 pub overflow_sub-result : goal.overflow_sub-result

@@ -2,8 +2,8 @@
 use mathlib.Core.Path.{◌∙◌, ap}
 use Prim.Native.Nat.{ℕ}
 use lib.Bits.{bit_or}
-use Rattle.rules.specs.Laws.Time.{one_shifted}
-use Rattle.rules.specs.Laws.Turns.{or_one}
+use Rattle.rules.proofs.Laws.Time.{one_shifted}
+use Rattle.rules.proofs.Laws.Turns.{or_one}
 use Rattle.acts.proofs.word.adding.Goals as goal
 
 pub returns : goal.returns

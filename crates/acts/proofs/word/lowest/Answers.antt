@@ -1,7 +1,7 @@
 -- The lowest event of a word, in the width of an index.
 use native.Mathlib.Omega.{arith}
 use Rattle.rules.specs.EventSet.{has, lowest_of}
-use Rattle.rules.specs.Laws.Counting.{lowest_le}
+use Rattle.rules.proofs.Laws.Counting.{lowest_le}
 use Rattle.acts.proofs.word.lowest.Goals as goal
 
 pub overflow_cast-result : goal.overflow_cast-result

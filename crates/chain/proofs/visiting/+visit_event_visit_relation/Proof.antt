@@ -16,7 +16,7 @@ use Rattle.rules.specs.EventSet.{size_of}
 use Rattle.rules.specs.Holds.{relation_of, record_of}
 use Rattle.rules.specs.Enabled.{blocks}
 use Rattle.rules.specs.Chain.{link, nothing, along, visit}
-use Rattle.rules.specs.Laws.Visits.{blocks_right}
+use Rattle.rules.proofs.Laws.Visits.{blocks_right}
 use Rattle.chain.specs.Words.{WordsOf, state_of, step, carried}
 use Rattle.chain.specs.Laws.Notes.{note, full, carried_nothing, carried_opened}
 use Rattle.chain.specs.Laws.Visiting.{size_grows, size_small, seen, new, Come, comes, goes_on, led}

@@ -6,7 +6,7 @@ use native.Mathlib.Omega.{arith}
 use borrow.Author.Rules.{rules}
 use lib.ListN.{replicate}
 use Rattle.rules.specs.Holds.{relation_of}
-use Rattle.rules.specs.Laws.Granted.{right_told}
+use Rattle.rules.proofs.Laws.Granted.{right_told}
 use Rattle.chain.specs.Words.{Words, WordsFrom}
 use Rattle.chain.specs.Laws.Filling.{Filled, starts, begun, turn_passed, turn_blocked}
 use Rattle.chain.proofs.words.words.Statement.{statement}

@@ -1,6 +1,6 @@
 -- A refused reading comes first, and leaves the buffer; else the answer is put back. Assumes nothing.
 use mathlib.Core.Path.{◌∙◌, sym}
-use Rattle.rules.specs.Laws.Numbers.{else_done, else_refused}
+use Rattle.rules.proofs.Laws.Numbers.{else_done, else_refused}
 use Rattle.duty.specs.Laws.Answered.{left}
 use borrow.Author.Rules.{rules}
 use Rattle.duty.proofs.acting.put_back_read.Statement.{statement}

@@ -12,8 +12,8 @@ use lib.ListN.{length, get_or}
 use Rattle.rules.specs.Numbers.{first_of}
 use Rattle.rules.specs.EventSet.{set_of}
 use Rattle.rules.specs.Fields.{field}
-use Rattle.rules.specs.Laws.EventSet.{set_zero, set_grown, set_fits}
-use Rattle.rules.specs.Laws.Numbers.{first_none, first_more, first_here}
+use Rattle.rules.proofs.Laws.EventSet.{set_zero, set_grown, set_fits}
+use Rattle.rules.proofs.Laws.Numbers.{first_none, first_more, first_here}
 use Rattle.duty.specs.Making.{class_number, is_controllable_in, is_causable_in}
 use Rattle.duty.specs.Laws.Made.{byte_controllable, byte_causable, byte_spare}
 use Rattle.duty.proofs.building.classes_from.Statement.{statement}

@@ -6,7 +6,7 @@ use native.Mathlib.Omega.{arith}
 use lib.ListN.{length, replicate}
 use Rattle.rules.specs.Counting.{places}
 use Rattle.rules.specs.Holds.{most_relations, empty_relation}
-use Rattle.rules.specs.Laws.Counting.{filled_none, filled_more}
+use Rattle.rules.proofs.Laws.Counting.{filled_none, filled_more}
 use Rattle.duty.specs.Making.{held_relation}
 use Rattle.duty.proofs.building.table_from.Statement.{statement}
 use Rattle.duty.proofs.building.table_from.Tie as tie

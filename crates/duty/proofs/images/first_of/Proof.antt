@@ -1,6 +1,6 @@
 -- The two tests of `else`. Assumes nothing.
 use mathlib.Core.Path.{sym}
-use Rattle.rules.specs.Laws.Numbers.{else_refused}
+use Rattle.rules.proofs.Laws.Numbers.{else_refused}
 use borrow.Author.Rules.{rules}
 use Rattle.duty.proofs.images.first_of.Statement.{statement}
 use Rattle.duty.proofs.images.first_of.Tie as tie

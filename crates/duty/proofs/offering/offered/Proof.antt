@@ -1,6 +1,6 @@
 -- Test by test as the law of the answer goes. Assumes nothing.
 use mathlib.Core.Path.{sym}
-use Rattle.rules.specs.Laws.Remedy.{remedy_first_long, remedy_second_long, remedy_first, remedy_second, remedy_none}
+use Rattle.rules.proofs.Laws.Remedy.{remedy_first_long, remedy_second_long, remedy_first, remedy_second, remedy_none}
 use borrow.Author.Rules.{rules}
 use Rattle.duty.proofs.offering.offered.Statement.{statement}
 use Rattle.duty.proofs.offering.offered.Tie as tie

@@ -6,7 +6,7 @@ use native.Mathlib.Omega.{arith}
 use lib.ListN.{length, set}
 use Rattle.rules.specs.Judge.{judged}
 use Rattle.rules.specs.Trace.{most_steps}
-use Rattle.rules.specs.Laws.Judge.{good}
+use Rattle.rules.proofs.Laws.Judge.{good}
 use Rattle.engine.specs.Heard.{after_marking}
 use Rattle.duties.specs.AtStart.{AtStart}
 use Rattle.engine.specs.Laws.Heard.{steps_long, steps_refused, steps_granted, still_long, steps_told, told_one}

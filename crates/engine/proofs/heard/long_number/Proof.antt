@@ -2,8 +2,8 @@
 use mathlib.Core.Path.{◌≡◌, sym, ◌∙◌}
 use borrow.Author.Tests.{eq-eqb, ne_eqb}
 use Rattle.rules.specs.Judge.{judged}
-use Rattle.rules.specs.Laws.Numbers.{else_refused}
-use Rattle.rules.specs.Laws.Judge.{judged_by}
+use Rattle.rules.proofs.Laws.Numbers.{else_refused}
+use Rattle.rules.proofs.Laws.Judge.{judged_by}
 use Rattle.engine.specs.Laws.Heard.{parity}
 use borrow.Author.Rules.{rules}
 use Rattle.engine.proofs.heard.long_number.Statement.{statement}

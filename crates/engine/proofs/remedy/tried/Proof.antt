@@ -4,7 +4,7 @@ use Prim.Native.Nat.{◌≤◌, ◌-◌}
 use native.Mathlib.Omega.{arith}
 use lib.ListN.{length}
 use borrow.Author.Rules.{rules}
-use Rattle.rules.specs.Laws.Tests.{not_true, not_false}
+use Rattle.rules.proofs.Laws.Tests.{not_true, not_false}
 use Rattle.engine.specs.Laws.Trial.{Trying, trying_none, trying_more, trying_stopped, trying_ended}
 use Rattle.engine.proofs.remedy.tried.Statement.{statement}
 use Rattle.engine.proofs.remedy.tried.Tie as tie

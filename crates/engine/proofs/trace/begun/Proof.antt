@@ -4,8 +4,8 @@ use borrow.Author.Tests.{ne_eqb}
 use Rattle.rules.specs.Numbers.{◌else◌}
 use Rattle.rules.specs.Judge.{judged}
 use Rattle.rules.specs.Trace.{trace_number}
-use Rattle.rules.specs.Laws.Numbers.{else_refused}
-use Rattle.rules.specs.Laws.Judge.{judged_by}
+use Rattle.rules.proofs.Laws.Numbers.{else_refused}
+use Rattle.rules.proofs.Laws.Judge.{judged_by}
 use Rattle.engine.specs.Running.{begun_run}
 use borrow.Author.Rules.{rules}
 use Rattle.engine.proofs.trace.begun.Statement.{statement}

@@ -9,7 +9,7 @@ use borrow.Author.Rules.{rules}
 use lib.ListN.{length, get_or, set}
 use lib.Seq.{paste, paste-zero, paste-suc, length-paste, take_all}
 use Rattle.rules.specs.Fields.{bytes_of}
-use Rattle.rules.specs.Laws.Fields.{length_bytes, byte_of}
+use Rattle.rules.proofs.Laws.Fields.{length_bytes, byte_of}
 use Rattle.image.proofs.bits.put_word.Goals as goal
 
 -- the buffer keeps its length

@@ -8,7 +8,7 @@ use borrow.Author.Rules.{rules}
 use lib.Pow.{pow_mono}
 use lib.ListN.{get_or}
 use Rattle.rules.specs.Fields.{field}
-use Rattle.rules.specs.Laws.Fields.{field_lt, word_more}
+use Rattle.rules.proofs.Laws.Fields.{field_lt, word_more}
 use Rattle.image.proofs.bits.word.Goals as goal
 
 -- there is room for one byte more

@@ -1,7 +1,7 @@
 -- `image::judge::marking_number` meets its contract: the two tests in the definition's order.
 use mathlib.Core.Path.{◌∙◌, sym}
 use Rattle.rules.specs.Judge.{marking_number}
-use Rattle.rules.specs.Laws.Fit.{fit_few}
+use Rattle.rules.proofs.Laws.Fit.{fit_few}
 use Rattle.image.proofs.judge.marking_number.Goals as goal
 
 pub returns-then-not-events_fit : goal.returns-then-not-events_fit

@@ -4,7 +4,7 @@ use Prim.Native.Nat.{ℕ}
 use native.Mathlib.Omega.{arith}
 use borrow.Author.Rules.{rules}
 use Rattle.rules.specs.Numbers.{first_of}
-use Rattle.rules.specs.Laws.Numbers.{first_none, first_more, first_here}
+use Rattle.rules.proofs.Laws.Numbers.{first_none, first_more, first_here}
 use Rattle.image.proofs.judge.records_number.Invariants.{number_at}
 use Rattle.image.proofs.judge.records_number.Goals as goal
 

@@ -1,7 +1,7 @@
 -- The number so far stands, and where it is 'done' the event must exist.
 use mathlib.Core.Path.{refl}
 use borrow.Author.Tests.{lt-ltb, le-ltb}
-use Rattle.rules.specs.Laws.Granted.{stands}
+use Rattle.rules.proofs.Laws.Granted.{stands}
 use Rattle.image.proofs.judging.then_event.Goals as goal
 
 pub returns-then-event-events : goal.returns-then-event-events

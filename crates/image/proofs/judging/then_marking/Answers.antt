@@ -1,6 +1,6 @@
 -- The table's number stands, and where it is 'done' the marking is asked.
 use mathlib.Core.Path.{refl}
-use Rattle.rules.specs.Laws.Granted.{stands}
+use Rattle.rules.proofs.Laws.Granted.{stands}
 use Rattle.image.proofs.judging.then_marking.Goals as goal
 
 pub returns-then-number-eq0 : goal.returns-then-number-eq0

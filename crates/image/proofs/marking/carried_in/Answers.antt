@@ -6,7 +6,7 @@ use borrow.Author.Rules.{rules}
 use Rattle.rules.specs.declared.Marking.{Marking}
 use Rattle.rules.specs.Holds.{most_events, empty_record}
 use Rattle.rules.specs.Carrying.{old_record_bit, carried}
-use Rattle.rules.specs.Laws.Counting.{filled_none, filled_more}
+use Rattle.rules.proofs.Laws.Counting.{filled_none, filled_more}
 use Rattle.image.specs.Packed.{record_of_word}
 use Rattle.image.specs.Laws.Packed.{carried_parts}
 use Rattle.image.proofs.marking.carried_in.Invariants.{record_in}

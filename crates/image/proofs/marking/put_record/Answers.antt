@@ -6,7 +6,7 @@ use native.Mathlib.Omega.{arith}
 use lib.ListN.{take, drop}
 use Rattle.rules.specs.Fields.{bytes_of}
 use Rattle.rules.specs.Image.{record_bytes}
-use Rattle.rules.specs.Laws.Fields.{length_bytes}
+use Rattle.rules.proofs.Laws.Fields.{length_bytes}
 use Rattle.image.specs.Laws.Packed.{room, record_bytes_lem}
 use Rattle.image.specs.Laws.Parts.{two_put}
 use Rattle.image.proofs.marking.put_record.Goals as goal

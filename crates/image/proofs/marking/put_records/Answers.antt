@@ -7,8 +7,8 @@ use borrow.Author.Rules.{rules}
 use lib.ListN.{length}
 use Rattle.rules.specs.Holds.{most_events}
 use Rattle.rules.specs.Image.{record_bytes}
-use Rattle.rules.specs.Laws.Pieces.{standing_none, standing_length, standing_more}
-use Rattle.rules.specs.Laws.Written.{records_sized}
+use Rattle.rules.proofs.Laws.Pieces.{standing_none, standing_length, standing_more}
+use Rattle.rules.proofs.Laws.Written.{records_sized}
 use Rattle.image.specs.Laws.Parts.{events_few, record_done}
 use Rattle.image.proofs.marking.put_records.Goals as goal
 

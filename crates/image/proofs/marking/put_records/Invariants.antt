@@ -4,7 +4,7 @@ use mathlib.Core.List.{List}
 use Prim.Native.Nat.{ℕ, ◌≤◌, ◌-◌}
 use Rattle.rules.specs.declared.Marking.{Marking}
 use Rattle.rules.specs.Image.{record_bytes, event_image}
-use Rattle.rules.specs.Laws.Pieces.{standing}
+use Rattle.rules.proofs.Laws.Pieces.{standing}
 use Rattle.image.proofs.marking.put_records.Given as goal
 
 -- the first i records at the start of a buffer

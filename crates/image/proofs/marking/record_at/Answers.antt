@@ -3,7 +3,7 @@ use mathlib.Core.Path.{◌≡◌, ap, ap₂, ◌∙◌}
 use Prim.Native.Nat.{ℕ, ◌+◌, ◌*◌}
 use native.Mathlib.Omega.{arith}
 use Rattle.rules.specs.Fields.{field}
-use Rattle.rules.specs.Laws.Fields.{field_lt}
+use Rattle.rules.proofs.Laws.Fields.{field_lt}
 use Rattle.image.specs.Packed.{record_of_word}
 use Rattle.image.specs.Laws.Packed.{record_parts}
 use Rattle.image.proofs.marking.record_at.Goals as goal

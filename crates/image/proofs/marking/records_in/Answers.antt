@@ -7,8 +7,8 @@ use borrow.Author.Tests.{ne_eqb}
 use Rattle.rules.specs.declared.Marking.{Marking}
 use Rattle.rules.specs.Holds.{most_events, empty_record}
 use Rattle.rules.specs.Judge.{record_number}
-use Rattle.rules.specs.Laws.Counting.{filled_none, filled_more}
-use Rattle.rules.specs.Laws.Numbers.{first_none, first_more, first_here}
+use Rattle.rules.proofs.Laws.Counting.{filled_none, filled_more}
+use Rattle.rules.proofs.Laws.Numbers.{first_none, first_more, first_here}
 use Rattle.image.proofs.marking.records_in.Invariants.{record_in, number_in}
 use Rattle.image.proofs.marking.records_in.Goals as goal
 

@@ -6,7 +6,7 @@ use native.Mathlib.Omega.{arith}
 use lib.Dec.{lit<}
 use Rattle.rules.specs.EventSet.{has}
 use Rattle.rules.specs.Fields.{bit}
-use Rattle.rules.specs.Laws.Fields.{flag_bit}
+use Rattle.rules.proofs.Laws.Fields.{flag_bit}
 use Rattle.image.proofs.table.class_of.Goals as goal
 
 digit : (set e : ℕ) → bit (has set e) ≡ set / 2 ^ e % 2

@@ -9,8 +9,8 @@ use borrow.Author.Rules.{rules}
 use borrow.Author.Tests.{eq-eqb, ne_eqb}
 use Rattle.rules.specs.EventSet.{set_of}
 use Rattle.rules.specs.Image.{class_spare}
-use Rattle.rules.specs.Laws.EventSet.{set_zero, set_grown, set_fits}
-use Rattle.rules.specs.Laws.Numbers.{first_none, first_more, first_here}
+use Rattle.rules.proofs.Laws.EventSet.{set_zero, set_grown, set_fits}
+use Rattle.rules.proofs.Laws.Numbers.{first_none, first_more, first_here}
 use Rattle.image.specs.Parts.{class_number, is_controllable_in, is_causable_in}
 use Rattle.image.specs.Laws.Parts.{class_controllable, class_causable, class_spare_lem}
 use Rattle.image.proofs.table.classes_in.Goals as goal

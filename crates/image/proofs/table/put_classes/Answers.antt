@@ -7,8 +7,8 @@ use native.Mathlib.Omega.{arith}
 use borrow.Author.Rules.{rules}
 use lib.ListN.{length}
 use Rattle.rules.specs.Fields.{bytes_of}
-use Rattle.rules.specs.Laws.Fields.{length_bytes}
-use Rattle.rules.specs.Laws.Pieces.{Sized, standing_none, standing_length, standing_more}
+use Rattle.rules.proofs.Laws.Fields.{length_bytes}
+use Rattle.rules.proofs.Laws.Pieces.{Sized, standing_none, standing_length, standing_more}
 use Rattle.image.proofs.table.put_classes.Invariants.{classes_of}
 use Rattle.image.proofs.table.put_classes.Goals as goal
 

@@ -4,7 +4,7 @@ use mathlib.Core.Path.{◌≡◌}
 use mathlib.Core.List.{List}
 use Prim.Native.Nat.{ℕ, ◌≤◌, ◌-◌}
 use Rattle.rules.specs.Fields.{bytes_of}
-use Rattle.rules.specs.Laws.Pieces.{standing}
+use Rattle.rules.proofs.Laws.Pieces.{standing}
 use Rattle.image.specs.Packed.{class_word}
 use Rattle.image.proofs.table.put_classes.Given as goal
 

@@ -3,7 +3,7 @@ use mathlib.Core.Path.{◌≡◌, ◌∙◌}
 use Prim.Native.Nat.{◌+◌, ◌*◌}
 use native.Mathlib.Omega.{arith}
 use Rattle.rules.specs.Fields.{bytes_of}
-use Rattle.rules.specs.Laws.Fields.{length_bytes}
+use Rattle.rules.proofs.Laws.Fields.{length_bytes}
 use Rattle.image.specs.Laws.Parts.{two_put}
 use Rattle.image.proofs.table.put_relation.Goals as goal
 

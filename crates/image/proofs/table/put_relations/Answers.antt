@@ -5,9 +5,9 @@ use native.Mathlib.Omega.{arith}
 use borrow.Author.Rules.{rules}
 use lib.ListN.{length}
 use Rattle.rules.specs.Shapes.Good.{GoodTable}
-use Rattle.rules.specs.Laws.Judge.{good_table}
-use Rattle.rules.specs.Laws.Pieces.{standing_none, standing_length, standing_more}
-use Rattle.rules.specs.Laws.Written.{places_sized, table_held}
+use Rattle.rules.proofs.Laws.Judge.{good_table}
+use Rattle.rules.proofs.Laws.Pieces.{standing_none, standing_length, standing_more}
+use Rattle.rules.proofs.Laws.Written.{places_sized, table_held}
 use Rattle.image.specs.Laws.Parts.{relation_bytes}
 use Rattle.image.proofs.table.put_relations.Goals as goal
 

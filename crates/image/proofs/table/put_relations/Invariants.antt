@@ -2,7 +2,7 @@
 use mathlib.Core.Path.{◌≡◌}
 use Prim.Native.Nat.{◌≤◌, ◌-◌, ◌+◌}
 use Rattle.rules.specs.Image.{place_image}
-use Rattle.rules.specs.Laws.Pieces.{standing}
+use Rattle.rules.proofs.Laws.Pieces.{standing}
 use Rattle.image.proofs.table.put_relations.Given as goal
 
 abbrev pub invariant-loop-i : goal.invariant-loop-i

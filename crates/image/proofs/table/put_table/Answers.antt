@@ -1,6 +1,6 @@
 -- `image::table::put_table` meets its contract: header, classes and relations, one put behind the other, are the table's image.
 use native.Mathlib.Omega.{arith}
-use Rattle.rules.specs.Laws.Judge.{good_table}
+use Rattle.rules.proofs.Laws.Judge.{good_table}
 use Rattle.rules.specs.Shapes.Good.{GoodTable}
 use Rattle.image.specs.Laws.Parts.{table_put}
 use Rattle.image.proofs.table.put_table.Goals as goal

@@ -9,8 +9,8 @@ use Rattle.rules.specs.declared.TableAnswer.{TableAnswer}
 use Rattle.rules.specs.Holds.{most_relations, empty_relation}
 use Rattle.rules.specs.Judge.{relation_number}
 use Rattle.rules.specs.Image.{relation_bit, relation_spare, relation_image_number}
-use Rattle.rules.specs.Laws.Counting.{filled_none, filled_more}
-use Rattle.rules.specs.Laws.Numbers.{first_none, first_more, first_here}
+use Rattle.rules.proofs.Laws.Counting.{filled_none, filled_more}
+use Rattle.rules.proofs.Laws.Numbers.{first_none, first_more, first_here}
 use Rattle.image.specs.Packed.{relation_of_word}
 use Rattle.image.specs.Laws.Packed.{relation_parts}
 use Rattle.image.specs.Laws.Parts.{relation_spare_lem}

@@ -6,7 +6,7 @@ use borrow.Author.Tests.{le-leb, lt-leb}
 use Rattle.rules.specs.declared.Marking.{Marking}
 use Rattle.rules.specs.Holds.{most_events, empty_record}
 use Rattle.rules.specs.Image.{fresh, fresh_record}
-use Rattle.rules.specs.Laws.Counting.{filled_none, filled_more}
+use Rattle.rules.proofs.Laws.Counting.{filled_none, filled_more}
 use Rattle.rules.proofs.Marking.fresh.Goals as goal
 
 pub returns-then-events-lt1 : goal.returns-then-events-lt1

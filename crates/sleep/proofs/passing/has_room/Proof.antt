@@ -8,7 +8,7 @@ use lib.ListN.{length}
 use borrow.Author.Tests.{le-leb}
 use borrow.Author.Rules.{rules}
 use Rattle.rules.specs.Sleep.{slept_caused}
-use Rattle.rules.specs.Laws.Sleep.{caused_few}
+use Rattle.rules.proofs.Laws.Sleep.{caused_few}
 use Rattle.sleep.proofs.passing.has_room.Statement.{statement}
 use Rattle.sleep.proofs.passing.has_room.Tie as tie
 

@@ -11,7 +11,7 @@ use mir.Val.{to_z, of_z, SFits, Fits}
 use mir.Facts.{to_z_pos, to_z-of_z}
 use lib.IntN.{ℤ, pos, negsuc, ◌-ℤ◌}
 use lib.Signed.{mag, lt_z}
-use Rattle.rules.specs.Laws.Tests.{clash}
+use Rattle.rules.proofs.Laws.Tests.{clash}
 use Rattle.wire.proofs.told.word_of.Statement.{statement}
 use Rattle.wire.proofs.told.word_of.Tie as tie
 
