@@ -8,8 +8,8 @@ use lib.ListN.{length}
 use lib.Seq.{ext_get_or}
 use Rattle.rules.specs.declared.Table.{Table}
 use Rattle.rules.specs.EventSet.{has}
-use Rattle.rules.specs.Laws.Tests.{same_test}
-use Rattle.rules.specs.Laws.Turns.{same_word}
+use Rattle.rules.proofs.Laws.Tests.{same_test}
+use Rattle.rules.proofs.Laws.Turns.{same_word}
 use Rattle.duties.specs.Inhibition.{Followed, Reached}
 use Rattle.duties.specs.Reasons.{Led}
 use Rattle.duties.specs.Taking.{Awaits}

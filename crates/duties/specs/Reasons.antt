@@ -9,7 +9,6 @@ use Rattle.rules.specs.EventSet.{has}
 use Rattle.rules.specs.Holds.{is_condition, is_inclusion, relation_of}
 use Rattle.rules.specs.Check.{uncausable, waiting, on_cycle, reopening, reviving, reason}
 use Rattle.duties.specs.declared.reasons.Finding.{Finding}
-use Rattle.duties.specs.declared.reasons.Finding.TheVariants as Finding
 use Rattle.duties.specs.declared.reasons.Finding.TheVariants.{Event}
 use Rattle.duties.specs.Inhibition.{led_to}
 
