@@ -1,0 +1,46 @@
+-- `chain::chain` gives the first number that is not 'done'; where all are, the list and its length. Every test stands before the first store.
+use mathlib.Core.Path.{◌≡◌, refl, sym, ap, ◌∙◌}
+use Prim.Native.Nat.{ℕ}
+use borrow.Author.Tests.{ne_eqb, ltb-false}
+use borrow.Author.Rules.{rules}
+use lib.Dec.{ltb}
+use lib.ListN.{length}
+use Rattle.rules.specs.Numbers.{◌if◌, ◌else◌}
+use Rattle.rules.specs.Holds.{most_relations}
+use Rattle.rules.specs.Judge.{judged, event_number}
+use Rattle.rules.specs.Chain.{chain_number, chain_answer, chain_list}
+use Rattle.rules.specs.Laws.Numbers.{if_done, both_done, else_joined}
+use Rattle.rules.specs.Laws.Judge.{good, judged_by, event_by}
+use Rattle.rules.specs.Laws.Granted.{event_exists}
+use Rattle.chain.proofs.chain.Goals as goal
+
+pub listed-count-requires : goal.listed-count-requires
+unfolding chain_number
+listed-count-requires c =
+    let number : let a = c.args in c.then_room-number.result ≡ chain_number a.t a.m a.event (length a.list.now) = let a = c.args in let event = event_by a.t a.m a.event (judged_by a.t a.m c.judge_table.ensures c.then_marking-judged.ensures) c.then_event-asked.ensures in c.then_room-number.ensures ∙ ap (λ (n : ℕ). n else 14 if ltb (length a.list.now) most_relations) event ∙ else_joined (judged a.t a.m) (event_number a.t a.event) _ in
+    let a = c.args in
+    let granted = sym (number) ∙ c.if-number-eq0.true in
+    let p = both_done (judged a.t a.m) _ granted in
+    let q = both_done (event_number a.t a.event) _ p.1 in record {
+      good = (good a.t a.m p.0, event_exists a.t a.event q.0);
+      most_relations_in_bounds = ltb-false _ _ (if_done 13 _ q.1);
+    }
+
+pub returns-then-number-eq0 : goal.returns-then-number-eq0
+unfolding chain_answer chain_list chain_number
+returns-then-number-eq0 c =
+    let number : let a = c.args in c.then_room-number.result ≡ chain_number a.t a.m a.event (length a.list.now) = let a = c.args in let event = event_by a.t a.m a.event (judged_by a.t a.m c.judge_table.ensures c.then_marking-judged.ensures) c.then_event-asked.ensures in c.then_room-number.ensures ∙ ap (λ (n : ℕ). n else 14 if ltb (length a.list.now) most_relations) event ∙ else_joined (judged a.t a.m) (event_number a.t a.event) _ in
+    let granted = sym (number) ∙ c.if-number-eq0.true in
+    rw granted record {
+      answer = ap (λ (n : ℕ). record { number = 0; count = n }) c.listed-count.ensures.count;
+      list = c.listed-count.ensures.list;
+    }
+
+pub returns : goal.returns
+unfolding chain_answer chain_list chain_number
+returns c =
+    let number : let a = c.args in c.then_room-number.result ≡ chain_number a.t a.m a.event (length a.list.now) = let a = c.args in let event = event_by a.t a.m a.event (judged_by a.t a.m c.judge_table.ensures c.then_marking-judged.ensures) c.then_event-asked.ensures in c.then_room-number.ensures ∙ ap (λ (n : ℕ). n else 14 if ltb (length a.list.now) most_relations) event ∙ else_joined (judged a.t a.m) (event_number a.t a.event) _ in
+    rw (← number, ne_eqb _ 0 c.if-number-eq0.false) record {
+      answer = refl;
+      list = refl;
+    }
