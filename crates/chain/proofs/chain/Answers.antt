@@ -1,25 +1,37 @@
 -- `chain::chain` gives the first number that is not 'done'; where all are, the list and its length. Every test stands before the first store.
 use mathlib.Core.Path.{◌≡◌, refl, sym, ap, ◌∙◌}
+use mathlib.Core.Bool.{not}
 use Prim.Native.Nat.{ℕ}
 use borrow.Author.Tests.{ne_eqb, ltb-false}
-use borrow.Author.Rules.{rules}
 use lib.Dec.{ltb}
 use lib.ListN.{length}
 use Rattle.rules.specs.Numbers.{◌if◌, ◌else◌}
 use Rattle.rules.specs.Holds.{most_relations}
-use Rattle.rules.specs.Judge.{judged, event_number}
+use Rattle.rules.specs.declared.Table.{Table}
+use Rattle.rules.specs.declared.Marking.{Marking}
+use Rattle.rules.specs.Judge.{judged, event_number, table_number, marking_number_for}
 use Rattle.rules.specs.Chain.{chain_number, chain_answer, chain_list}
 use Rattle.rules.specs.Laws.Numbers.{if_done, both_done, else_joined}
 use Rattle.rules.specs.Laws.Judge.{good, judged_by, event_by}
 use Rattle.rules.specs.Laws.Granted.{event_exists}
 use Rattle.chain.proofs.chain.Goals as goal
 
+-- the number, once all is asked
+number : (t : Table) (m : Marking) (event room : ℕ) {first second third last : ℕ} → first ≡ table_number t
+    → second ≡ (first else marking_number_for t.events m) → third ≡ (second else 8 if not (ltb event t.events))
+    → last ≡ (third else 14 if ltb room most_relations) → last ≡ chain_number t m event room
+unfolding chain_number
+number t m event room table marking asked whole =
+    whole
+    ∙ ap (λ (n : ℕ). n else 14 if ltb room most_relations) (event_by t m event (judged_by t m table marking) asked)
+    ∙ else_joined (judged t m) (event_number t event) _
+
 pub listed-count-requires : goal.listed-count-requires
 unfolding chain_number
 listed-count-requires c =
-    let number : let a = c.args in c.then_room-number.result ≡ chain_number a.t a.m a.event (length a.list.now) = let a = c.args in let event = event_by a.t a.m a.event (judged_by a.t a.m c.judge_table.ensures c.then_marking-judged.ensures) c.then_event-asked.ensures in c.then_room-number.ensures ∙ ap (λ (n : ℕ). n else 14 if ltb (length a.list.now) most_relations) event ∙ else_joined (judged a.t a.m) (event_number a.t a.event) _ in
     let a = c.args in
-    let granted = sym (number) ∙ c.if-number-eq0.true in
+    let asked = number a.t a.m a.event (length a.list.now) c.judge_table.ensures c.then_marking-judged.ensures c.then_event-asked.ensures c.then_room-number.ensures in
+    let granted = sym asked ∙ c.if-number-eq0.true in
     let p = both_done (judged a.t a.m) _ granted in
     let q = both_done (event_number a.t a.event) _ p.1 in record {
       good = (good a.t a.m p.0, event_exists a.t a.event q.0);
@@ -27,20 +39,22 @@ listed-count-requires c =
     }
 
 pub returns-then-number-eq0 : goal.returns-then-number-eq0
-unfolding chain_answer chain_list chain_number
+unfolding chain_answer chain_list
 returns-then-number-eq0 c =
-    let number : let a = c.args in c.then_room-number.result ≡ chain_number a.t a.m a.event (length a.list.now) = let a = c.args in let event = event_by a.t a.m a.event (judged_by a.t a.m c.judge_table.ensures c.then_marking-judged.ensures) c.then_event-asked.ensures in c.then_room-number.ensures ∙ ap (λ (n : ℕ). n else 14 if ltb (length a.list.now) most_relations) event ∙ else_joined (judged a.t a.m) (event_number a.t a.event) _ in
-    let granted = sym (number) ∙ c.if-number-eq0.true in
+    let a = c.args in
+    let asked = number a.t a.m a.event (length a.list.now) c.judge_table.ensures c.then_marking-judged.ensures c.then_event-asked.ensures c.then_room-number.ensures in
+    let granted = sym asked ∙ c.if-number-eq0.true in
     rw granted record {
       answer = ap (λ (n : ℕ). record { number = 0; count = n }) c.listed-count.ensures.count;
       list = c.listed-count.ensures.list;
     }
 
 pub returns : goal.returns
-unfolding chain_answer chain_list chain_number
+unfolding chain_answer chain_list
 returns c =
-    let number : let a = c.args in c.then_room-number.result ≡ chain_number a.t a.m a.event (length a.list.now) = let a = c.args in let event = event_by a.t a.m a.event (judged_by a.t a.m c.judge_table.ensures c.then_marking-judged.ensures) c.then_event-asked.ensures in c.then_room-number.ensures ∙ ap (λ (n : ℕ). n else 14 if ltb (length a.list.now) most_relations) event ∙ else_joined (judged a.t a.m) (event_number a.t a.event) _ in
-    rw (← number, ne_eqb _ 0 c.if-number-eq0.false) record {
+    let a = c.args in
+    let asked = number a.t a.m a.event (length a.list.now) c.judge_table.ensures c.then_marking-judged.ensures c.then_event-asked.ensures c.then_room-number.ensures in
+    rw (← asked, ne_eqb _ 0 c.if-number-eq0.false) record {
       answer = refl;
       list = refl;
     }

@@ -3,12 +3,10 @@ use mathlib.Core.Path.{◌≡◌, sym, ◌∙◌, subst}
 use mathlib.Core.List.{List}
 use Prim.Native.Nat.{ℕ, ◌<◌, ◌-◌}
 use native.Mathlib.Omega.{arith}
-use borrow.Author.Rules.{rules}
 use lib.ListN.{replicate}
-use Rattle.rules.specs.Holds.{relation_of}
 use Rattle.rules.specs.Laws.Granted.{right_told}
 use Rattle.chain.specs.Words.{Words, WordsFrom}
-use Rattle.chain.specs.Laws.Filling.{Filled, starts, begun, turn_passed, turn_blocked}
+use Rattle.chain.specs.Laws.Filling.{starts, begun, turn_passed, turn_blocked}
 use Rattle.chain.proofs.words.words.Goals as goal
 
 pub loop-i-init : goal.loop-i-init
@@ -27,13 +25,15 @@ bounds-m-x c = right_told c.requires.good.table_good _ (omega arith)
 
 pub bounds-next-first : goal.bounds-next-first
 bounds-next-first c =
-    let left_few : (relation_of c.args.t (c.loop-i.i - 1)).left < 64 = let table = c.requires.good.table_good in let used : c.loop-i.i - 1 < c.args.t.count = omega (arith, c.loop-i.invariant.0) in omega (arith, (table.relations_good (c.loop-i.i - 1) used).left_exists, table.few_events) in
-    omega (arith, left_few)
+    let table = c.requires.good.table_good in
+    let used : c.loop-i.i - 1 < c.args.t.count = omega (arith, c.loop-i.invariant.0) in
+    omega (arith, (table.relations_good (c.loop-i.i - 1) used).left_exists, table.few_events)
 
 pub bounds-next-first-then-stops : goal.bounds-next-first-then-stops
 bounds-next-first-then-stops c =
-    let left_few : (relation_of c.args.t (c.loop-i.i - 1)).left < 64 = let table = c.requires.good.table_good in let used : c.loop-i.i - 1 < c.args.t.count = omega (arith, c.loop-i.invariant.0) in omega (arith, (table.relations_good (c.loop-i.i - 1) used).left_exists, table.few_events) in
-    omega (arith, left_few)
+    let table = c.requires.good.table_good in
+    let used : c.loop-i.i - 1 < c.args.t.count = omega (arith, c.loop-i.invariant.0) in
+    omega (arith, (table.relations_good (c.loop-i.i - 1) used).left_exists, table.few_events)
 
 pub loop-i-preserved-then-stops : goal.loop-i-preserved-then-stops
 loop-i-preserved-then-stops c =
