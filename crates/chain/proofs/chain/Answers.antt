@@ -11,9 +11,9 @@ use Rattle.rules.specs.declared.Table.{Table}
 use Rattle.rules.specs.declared.Marking.{Marking}
 use Rattle.rules.specs.Judge.{judged, event_number, table_number, marking_number_for}
 use Rattle.rules.specs.Chain.{chain_number, chain_answer, chain_list}
-use Rattle.rules.specs.Laws.Numbers.{if_done, both_done, else_joined}
-use Rattle.rules.specs.Laws.Judge.{good, judged_by, event_by}
-use Rattle.rules.specs.Laws.Granted.{event_exists}
+use Rattle.rules.proofs.Laws.Numbers.{if_done, both_done, else_joined}
+use Rattle.rules.proofs.Laws.Judge.{good, judged_by, event_by}
+use Rattle.rules.proofs.Laws.Granted.{event_exists}
 use Rattle.chain.proofs.chain.Goals as goal
 
 -- the number, once all is asked

@@ -4,8 +4,8 @@ use Prim.Native.Nat.{◌≤◌}
 use native.Mathlib.Omega.{arith}
 use lib.ListN.{length}
 use Rattle.rules.specs.Chain.{chain, visit}
-use Rattle.rules.specs.Laws.Tests.{not_true, not_false}
-use Rattle.rules.specs.Laws.Chain.{chain_fits, chain_excluded}
+use Rattle.rules.proofs.Laws.Tests.{not_true, not_false}
+use Rattle.rules.proofs.Laws.Chain.{chain_fits, chain_excluded}
 use Rattle.chain.specs.Words.{State}
 use Rattle.chain.specs.Laws.Notes.{carried_whole}
 use Rattle.chain.proofs.listing.listed.Goals as goal

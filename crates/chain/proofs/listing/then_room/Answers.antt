@@ -1,7 +1,7 @@
 -- The number so far stands, and where it is 'done' the list must have room.
 use mathlib.Core.Path.{refl}
 use borrow.Author.Tests.{lt-ltb, le-ltb}
-use Rattle.rules.specs.Laws.Granted.{stands}
+use Rattle.rules.proofs.Laws.Granted.{stands}
 use Rattle.chain.proofs.listing.then_room.Goals as goal
 
 pub returns-then-room-lt-MOST_RELATIONS : goal.returns-then-room-lt-MOST_RELATIONS

@@ -5,7 +5,7 @@ use Rattle.rules.specs.declared.Marking.{Marking}
 use Rattle.rules.specs.EventSet.{has, size_of, with_event}
 use Rattle.rules.specs.Holds.{relation_of, record_of}
 use Rattle.rules.specs.Chain.{link, along, visit}
-use Rattle.rules.specs.Laws.Visits.{blocks_right}
+use Rattle.rules.proofs.Laws.Visits.{blocks_right}
 use Rattle.chain.specs.Words.{State, state_of, step, carried}
 use Rattle.chain.specs.Laws.Notes.{note, full, carried_nothing, carried_opened}
 use Rattle.chain.specs.Laws.Visiting.{size_grows, size_small, seen, new, Come, comes, goes_on, led}

@@ -4,7 +4,7 @@ use mathlib.Core.List.{List}
 use Prim.Native.Nat.{ℕ, ◌<◌, ◌-◌}
 use native.Mathlib.Omega.{arith}
 use lib.ListN.{replicate}
-use Rattle.rules.specs.Laws.Granted.{right_told}
+use Rattle.rules.proofs.Laws.Granted.{right_told}
 use Rattle.chain.specs.Words.{Words, WordsFrom}
 use Rattle.chain.specs.Laws.Filling.{starts, begun, turn_passed, turn_blocked}
 use Rattle.chain.proofs.words.words.Goals as goal
