@@ -19,16 +19,12 @@ use Rattle.engine.proofs.closure.Goals as goal
 abbrev answer : ℕ → ℕ → ClosureAnswer
 answer set size = record { number = 0; set = set; size = size }
 
--- the table, judged, and a relation of it: that of this turn
-abbrev table : tie.Then1 invariant-loop decreases-loop → Table
-table c = c.before.before.before.args.t1
-
 pub loop-i-init : goal.loop-i-init
 loop-i-init c = let t = c.args.t in (omega arith, refl, followed_none t, answers_none t)
 
 pub offset_bounds-t-i : goal.offset_bounds-t-i
 offset_bounds-t-i c =
-    let there : c.loop-i.i < (table c).count = omega arith in
+    let there : c.loop-i.i < c.args.t.count = omega arith in
     let number : c.then_marking-number.result ≡ judged c.args.t c.args.m = judged_by _ _ c.judge_table.ensures c.then_marking-number.ensures in
     let granted : judged c.args.t c.args.m ≡ 0 = sym (number) ∙ c.if-number-eq0.true in
     let few : c.loop-i.i < 256 = omega (arith, there, (table_good _ _ (granted)).few_relations) in
@@ -36,7 +32,7 @@ offset_bounds-t-i c =
 
 pub bounds-t-i : goal.bounds-t-i
 bounds-t-i c =
-    let there : c.loop-i.i < (table c).count = omega arith in
+    let there : c.loop-i.i < c.args.t.count = omega arith in
     let number : c.then_marking-number.result ≡ judged c.args.t c.args.m = judged_by _ _ c.judge_table.ensures c.then_marking-number.ensures in
     let granted : judged c.args.t c.args.m ≡ 0 = sym (number) ∙ c.if-number-eq0.true in
     let few : c.loop-i.i < 256 = omega (arith, there, (table_good _ _ (granted)).few_relations) in
@@ -46,22 +42,22 @@ pub note-requires : goal.note-requires
 note-requires c =
     let number : c.then_marking-number.result ≡ judged c.args.t c.args.m = judged_by _ _ c.judge_table.ensures c.then_marking-number.ensures in
     let granted : judged c.args.t c.args.m ≡ 0 = sym (number) ∙ c.if-number-eq0.true in
-    let there : c.loop-i.i < (table c).count = omega arith in
-    let left_few : (relation_of (table c) c.loop-i.i).left < 64 = left_small (table c) (table_good _ _ (granted)) c.loop-i.i (there) in
-    let right_few : (relation_of (table c) c.loop-i.i).right < 64 = right_small (table c) (table_good _ _ (granted)) c.loop-i.i (there) in
+    let there : c.loop-i.i < c.args.t.count = omega arith in
+    let left_few : (relation_of c.args.t c.loop-i.i).left < 64 = left_small c.args.t (table_good _ _ (granted)) c.loop-i.i (there) in
+    let right_few : (relation_of c.args.t c.loop-i.i).right < 64 = right_small c.args.t (table_good _ _ (granted)) c.loop-i.i (there) in
     (c.loop-i.invariant.2.size, left_few, right_few)
 
 pub answering-answers-requires : goal.answering-answers-requires
 answering-answers-requires c =
     let number : c.then_marking-number.result ≡ judged c.args.t c.args.m = judged_by _ _ c.judge_table.ensures c.then_marking-number.ensures in
     let granted : judged c.args.t c.args.m ≡ 0 = sym (number) ∙ c.if-number-eq0.true in
-    let there : c.loop-i.i < (table c).count = omega arith in
-    let right_few : (relation_of (table c) c.loop-i.i).right < 64 = right_small (table c) (table_good _ _ (granted)) c.loop-i.i (there) in
+    let there : c.loop-i.i < c.args.t.count = omega arith in
+    let right_few : (relation_of c.args.t c.loop-i.i).right < 64 = right_small c.args.t (table_good _ _ (granted)) c.loop-i.i (there) in
     right_few
 
 pub overflow_add-i : goal.overflow_add-i
 overflow_add-i c =
-    let there : c.loop-i.i < (table c).count = omega arith in
+    let there : c.loop-i.i < c.args.t.count = omega arith in
     let number : c.then_marking-number.result ≡ judged c.args.t c.args.m = judged_by _ _ c.judge_table.ensures c.then_marking-number.ensures in
     let granted : judged c.args.t c.args.m ≡ 0 = sym (number) ∙ c.if-number-eq0.true in
     let few : c.loop-i.i < 256 = omega (arith, there, (table_good _ _ (granted)).few_relations) in
@@ -71,9 +67,9 @@ pub loop-i-preserved : goal.loop-i-preserved
 loop-i-preserved c =
     let number : c.then_marking-number.result ≡ judged c.args.t c.args.m = judged_by _ _ c.judge_table.ensures c.then_marking-number.ensures in
     let granted : judged c.args.t c.args.m ≡ 0 = sym (number) ∙ c.if-number-eq0.true in
-    let there : c.loop-i.i < (table c).count = omega arith in
-    let left_few : (relation_of (table c) c.loop-i.i).left < 64 = left_small (table c) (table_good _ _ (granted)) c.loop-i.i (there) in
-    let t = table c in (
+    let there : c.loop-i.i < c.args.t.count = omega arith in
+    let left_few : (relation_of c.args.t c.loop-i.i).left < 64 = left_small c.args.t (table_good _ _ (granted)) c.loop-i.i (there) in
+    let t = c.args.t in (
       omega arith,
       refl,
       rw c.note.ensures (followed_more t c.loop-i.i c.loop-i.words (left_few) c.loop-i.invariant.2),

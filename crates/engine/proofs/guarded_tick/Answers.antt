@@ -54,7 +54,7 @@ pub guarded-count-requires : goal.guarded-count-requires
 guarded-count-requires c =
     let number : c.then_marking-number.result ≡ judged c.args.t c.args.m = judged_by _ _ c.judge_table.ensures c.then_marking-number.ensures in
     let granted : judged c.args.t c.args.m ≡ 0 = sym (number) ∙ c.if-number-ne0.false in
-    let words = (c.derived.ensures.derived, c.derived.ensures.linked) in
+    let words = c.derived.ensures in
     let d = granted in
     (some_events _ _ d, (table_good _ _ d).few_events, words.derived.size, words.linked.size, omega arith)
 
@@ -69,14 +69,14 @@ returns-in-Refused c =
     let number : c.then_marking-number.result ≡ judged c.args.t c.args.m = judged_by _ _ c.judge_table.ensures c.then_marking-number.ensures in
     let granted : judged c.args.t c.args.m ≡ 0 = sym (number) ∙ c.if-number-ne0.false in
     let told : let a = c.args in c.verdict-verdict.result ≡ verdict a.t a.m = let a = c.args in let d = granted in let stands = laid_out a.t a.m d c.lay.ensures in c.verdict-verdict.ensures ∙ c.found-found.ensures a.t (unused a.m) 0 _ a.m (table_good _ _ d) c.derived.ensures.derived c.head_of-head.ensures stands in
-    c.nothing-in-Refused.ensures ∙ tick_refused _ _ (granted) _ (sym (told) ∙ c.verdict-1.given.1)
+    c.nothing-in-Refused.ensures ∙ tick_refused _ _ (granted) _ (sym (told) ∙ c.in-Refused.is)
 
 pub returns-in-Rejects : goal.returns-in-Rejects
 returns-in-Rejects c =
     let number : c.then_marking-number.result ≡ judged c.args.t c.args.m = judged_by _ _ c.judge_table.ensures c.then_marking-number.ensures in
     let granted : judged c.args.t c.args.m ≡ 0 = sym (number) ∙ c.if-number-ne0.false in
     let told : let a = c.args in c.verdict-verdict.result ≡ verdict a.t a.m = let a = c.args in let d = granted in let stands = laid_out a.t a.m d c.lay.ensures in c.verdict-verdict.ensures ∙ c.found-found.ensures a.t (unused a.m) 0 _ a.m (table_good _ _ d) c.derived.ensures.derived c.head_of-head.ensures stands in
-    c.nothing-in-Rejects.ensures ∙ tick_rejected _ _ (granted) _ _ (sym (told) ∙ c.verdict-in-Rejects-1.given.1)
+    c.nothing-in-Rejects.ensures ∙ tick_rejected _ _ (granted) _ _ (sym (told) ∙ c.in-Rejects.is)
 
 pub returns-in-Accepts : goal.returns-in-Accepts
 returns-in-Accepts c =
@@ -85,12 +85,12 @@ returns-in-Accepts c =
     let told : let a = c.args in c.verdict-verdict.result ≡ verdict a.t a.m = let a = c.args in let d = granted in let stands = laid_out a.t a.m d c.lay.ensures in c.verdict-verdict.ensures ∙ c.found-found.ensures a.t (unused a.m) 0 _ a.m (table_good _ _ d) c.derived.ensures.derived c.head_of-head.ensures stands in
     let a = c.args in
     let d = granted in
-    let words = (c.derived.ensures.derived, c.derived.ensures.linked) in
-    let accepts : verdict a.t a.m ≡ Accepts = sym (told) ∙ c.enum_told-1.given.1 in
+    let words = c.derived.ensures in
+    let accepts : verdict a.t a.m ≡ Accepts = sym (told) ∙ c.in-Accepts.is in
     let stands = laid_out a.t a.m d c.lay.ensures in
     let firm = head_firm _ a.t c.head_of-head.ensures in
     let g = c.guarded-count.ensures.stands a.t (unused a.m) a.m (table_good _ _ d) words.derived words.linked refl firm refl stands in
-    let next = rw (← c.tick.ensures.value) c g.0 in
+    let next = rw (← c.tick.ensures.value) at g.0 in
     answered_is (caused a.t a.m) (guarded a.t a.m) _ g.1
     (given_back a.t a.m d _ _ _ c.give-after.ensures next)
     ∙ tick_accepted a.t a.m d accepts

@@ -3,6 +3,7 @@ use mathlib.Core.Path.{◌≡◌, sym, ◌∙◌}
 use borrow.Author.Tests.{ne_eqb}
 use borrow.Author.Rules.{rules}
 use Rattle.rules.specs.Numbers.{◌else◌}
+use Rattle.rules.specs.declared.HoldUpAnswer.TheVariants.{Refused}
 use Rattle.rules.specs.Judge.{judged, event_number}
 use Rattle.rules.specs.HoldUp.{hold_up}
 use Rattle.rules.proofs.Laws.Granted.{event_told}
@@ -22,16 +23,20 @@ pub returns-then-number-eq0 : goal.returns-then-number-eq0
 unfolding hold_up
 returns-then-number-eq0 c =
     let event_number_lem : c.then_event-number.result ≡ (judged c.args.t c.args.m else event_number c.args.t c.args.event) = event_by _ _ _ (judged_by _ _ c.judge_table.ensures c.then_marking-judged.ensures) c.then_event-number.ensures in
+    let is : c.holding.result ≡ hold_up c.args.t c.args.m c.args.event = (rw (sym (event_number_lem) ∙ c.if-number-eq0.true) c.holding.ensures) in
+    let whole = hold_up_whole c.args.t c.args.m c.args.event is in
     record {
-      answer = (hold_up_whole _ _ _ (rw (sym (event_number_lem) ∙ c.if-number-eq0.true) c.holding.ensures)).0;
-      told = (hold_up_whole _ _ _ (rw (sym (event_number_lem) ∙ c.if-number-eq0.true) c.holding.ensures)).1;
+      answer = whole.0;
+      told = whole.1;
     }
 
 pub returns : goal.returns
 unfolding hold_up
 returns c =
     let event_number_lem : c.then_event-number.result ≡ (judged c.args.t c.args.m else event_number c.args.t c.args.event) = event_by _ _ _ (judged_by _ _ c.judge_table.ensures c.then_marking-judged.ensures) c.then_event-number.ensures in
+    let is : Refused c.then_event-number.result ≡ hold_up c.args.t c.args.m c.args.event = (rw (← event_number_lem, ne_eqb _ _ c.if-number-eq0.false)) in
+    let whole = hold_up_whole c.args.t c.args.m c.args.event is in
     record {
-      answer = (hold_up_whole _ _ _ (rw (← event_number_lem, ne_eqb _ _ c.if-number-eq0.false))).0;
-      told = (hold_up_whole _ _ _ (rw (← event_number_lem, ne_eqb _ _ c.if-number-eq0.false))).1;
+      answer = whole.0;
+      told = whole.1;
     }

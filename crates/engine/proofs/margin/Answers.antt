@@ -6,6 +6,7 @@ use borrow.Author.Tests.{lt-ltb, le-ltb, ne_eqb}
 use borrow.Author.Rules.{rules}
 use lib.Dec.{ltb}
 use Rattle.rules.specs.Numbers.{◌if◌}
+use Rattle.rules.specs.declared.MarginAnswer.TheVariants.{Refused}
 use Rattle.rules.specs.Judge.{judged}
 use Rattle.rules.specs.Margin.{margin}
 use Rattle.rules.specs.Shapes.Good.{Good}
@@ -42,27 +43,32 @@ pub returns-then-relation-t : goal.returns-then-relation-t
 unfolding margin
 returns-then-relation-t c =
     let number : c.then_marking-number.result ≡ judged c.args.t c.args.m = judged_by _ _ c.judge_table.ensures c.then_marking-number.ensures in
+    let is : c.margin_of.result ≡ margin c.args.t c.args.m c.args.relation = (rw (sym (number) ∙ c.if-number-eq0.true, lt-ltb _ _ c.if-relation-t.true) c.margin_of.ensures) in
+    let whole = margin_whole c.args.t c.args.m c.args.relation is in
     record {
-      answer = (margin_whole _ _ _
-    (rw (sym (number) ∙ c.if-number-eq0.true, lt-ltb _ _ c.if-relation-t.true) c.margin_of.ensures)).0;
-      told = (margin_whole _ _ _
-    (rw (sym (number) ∙ c.if-number-eq0.true, lt-ltb _ _ c.if-relation-t.true) c.margin_of.ensures)).1;
+      answer = whole.0;
+      told = whole.1;
     }
 
 pub returns-then-number-eq0 : goal.returns-then-number-eq0
 unfolding margin
 returns-then-number-eq0 c =
     let number : c.then_marking-number.result ≡ judged c.args.t c.args.m = judged_by _ _ c.judge_table.ensures c.then_marking-number.ensures in
+    let is : Refused 8 ≡ margin c.args.t c.args.m c.args.relation = (rw (sym (number) ∙ c.if-number-eq0.true, le-ltb _ _ c.if-relation-t.false)) in
+    let whole = margin_whole c.args.t c.args.m c.args.relation is in
     record {
-      answer = (margin_whole _ _ _ (rw (sym (number) ∙ c.if-number-eq0.true, le-ltb _ _ c.if-relation-t.false))).0;
-      told = (margin_whole _ _ _ (rw (sym (number) ∙ c.if-number-eq0.true, le-ltb _ _ c.if-relation-t.false))).1;
+      answer = whole.0;
+      told = whole.1;
     }
 
 pub returns : goal.returns
 unfolding margin
 returns c =
     let number : c.then_marking-number.result ≡ judged c.args.t c.args.m = judged_by _ _ c.judge_table.ensures c.then_marking-number.ensures in
-    let next = 8 if not (ltb c.args.relation c.args.t.count) in record {
-      answer = (margin_whole _ _ _ (rw (← stands next (number) c.if-number-eq0.false, ne_eqb _ _ c.if-number-eq0.false))).0;
-      told = (margin_whole _ _ _ (rw (← stands next (number) c.if-number-eq0.false, ne_eqb _ _ c.if-number-eq0.false))).1;
+    let next = 8 if not (ltb c.args.relation c.args.t.count) in
+    let is : Refused c.then_marking-number.result ≡ margin c.args.t c.args.m c.args.relation = (rw (← stands next (number) c.if-number-eq0.false, ne_eqb _ _ c.if-number-eq0.false)) in
+    let whole = margin_whole c.args.t c.args.m c.args.relation is in
+    record {
+      answer = whole.0;
+      told = whole.1;
     }

@@ -22,9 +22,9 @@ returns-then-refusal-ne0 c =
     let number : let a = c.args in c.then_marking-refusal.result ≡ judged a.t a.m = judged_by _ _ c.judge_table.ensures c.then_marking-refusal.ensures in
     let a = c.args in
     let e = remedy_judged a.t a.m a.preferred.now a.fallback.now (number) c.if-refusal-ne0.true in record {
-      stretch = ((rw e, (rw e, rw e))).0;
-      own = ((rw e, (rw e, rw e))).1;
-      number = ((rw e, (rw e, rw e))).2;
+      stretch = rw e;
+      own = rw e;
+      number = rw e;
     }
 
 pub returns-then-preferred-gt-LONGEST_LIST : goal.returns-then-preferred-gt-LONGEST_LIST
@@ -33,9 +33,9 @@ returns-then-preferred-gt-LONGEST_LIST c =
     let granted : judged c.args.t c.args.m ≡ 0 = sym (number) ∙ c.if-refusal-ne0.false in
     let a = c.args in
     let e = remedy_first_long a.t a.m a.preferred.now a.fallback.now (granted) c.if-preferred-gt-LONGEST_LIST.true in record {
-      stretch = ((rw e, (rw e, rw e))).0;
-      own = ((rw e, (rw e, rw e))).1;
-      number = ((rw e, (rw e, rw e))).2;
+      stretch = rw e;
+      own = rw e;
+      number = rw e;
     }
 
 pub returns-then-fallback-gt-LONGEST_LIST : goal.returns-then-fallback-gt-LONGEST_LIST
@@ -44,9 +44,9 @@ returns-then-fallback-gt-LONGEST_LIST c =
     let granted : judged c.args.t c.args.m ≡ 0 = sym (number) ∙ c.if-refusal-ne0.false in
     let a = c.args in
     let e = remedy_second_long a.t a.m a.preferred.now a.fallback.now (granted) c.if-fallback-gt-LONGEST_LIST.true in record {
-      stretch = ((rw e, (rw e, rw e))).0;
-      own = ((rw e, (rw e, rw e))).1;
-      number = ((rw e, (rw e, rw e))).2;
+      stretch = rw e;
+      own = rw e;
+      number = rw e;
     }
 
 pub derived-requires : goal.derived-requires
@@ -73,7 +73,7 @@ tried-first-requires c =
     let granted : judged c.args.t c.args.m ≡ 0 = sym (number) ∙ c.if-refusal-ne0.false in
     let good : let a = c.args in judged a.t a.m ≡ 0 = granted in
     let few : (0 < c.head_of-head.result.events) × (c.head_of-head.result.events ≤ 64) = let h = c.head_of-head.ensures in (rw h (some_events _ _ (good)), rw h (table_good _ _ (good)).few_events) in
-    let words = (c.derived.ensures.derived, c.derived.ensures.linked) in
+    let words = c.derived.ensures in
     let counts = few in
     (counts.0, counts.1, words.derived.size, words.linked.size)
 
@@ -93,16 +93,16 @@ returns-then-due-eq0 c =
     let number : let a = c.args in c.then_marking-refusal.result ≡ judged a.t a.m = judged_by _ _ c.judge_table.ensures c.then_marking-refusal.ensures in
     let granted : judged c.args.t c.args.m ≡ 0 = sym (number) ∙ c.if-refusal-ne0.false in
     let good : let a = c.args in judged a.t a.m ≡ 0 = granted in
-    let first_told : let a = c.args in (after : Marking) × ((c.due.result ≡ due_set after) × Tried a.t a.m a.preferred.now c.tried-first.result after) = let a = c.args in let words = (c.derived.ensures.derived, c.derived.ensures.linked) in let stands = laid_out a.t a.m (good) c.lay.ensures in let w = c.tried-first.ensures.stands a.t (unused a.m) a.m (good) words.derived words.linked c.head_of-head.ensures stands in (w.0, (c.due.ensures (unused a.m) w.0 w.1, w.2)) in
+    let first_told : let a = c.args in (after : Marking) × ((c.due.result ≡ due_set after) × Tried a.t a.m a.preferred.now c.tried-first.result after) = let a = c.args in let words = c.derived.ensures in let stands = laid_out a.t a.m (good) c.lay.ensures in let w = c.tried-first.ensures.stands a.t (unused a.m) a.m (good) words.derived words.linked c.head_of-head.ensures stands in (w.0, (c.due.ensures (unused a.m) w.0 w.1, w.2)) in
     let a = c.args in
     let w = first_told in
     let is = start_found w.1.1 (sym w.1.0 ∙ c.if-due-eq0.true) in
     let e =
     remedy_first a.t a.m a.preferred.now a.fallback.now (granted) c.if-preferred-gt-LONGEST_LIST.false c.if-fallback-gt-LONGEST_LIST.false
     (rw is c.tried-first.ensures.upper_bound) in record {
-      stretch = ((rw (e, is), (rw e, rw e))).0;
-      own = ((rw (e, is), (rw e, rw e))).1;
-      number = ((rw (e, is), (rw e, rw e))).2;
+      stretch = rw (e, is);
+      own = rw e;
+      number = rw e;
     }
 
 pub tried-second-requires : goal.tried-second-requires
@@ -111,7 +111,7 @@ tried-second-requires c =
     let granted : judged c.args.t c.args.m ≡ 0 = sym (number) ∙ c.if-refusal-ne0.false in
     let good : let a = c.args in judged a.t a.m ≡ 0 = granted in
     let few : (0 < c.head_of-head.result.events) × (c.head_of-head.result.events ≤ 64) = let h = c.head_of-head.ensures in (rw h (some_events _ _ (good)), rw h (table_good _ _ (good)).few_events) in
-    let words = (c.derived.ensures.derived, c.derived.ensures.linked) in
+    let words = c.derived.ensures in
     let counts = few in
     (counts.0, counts.1, words.derived.size, words.linked.size)
 
@@ -131,8 +131,8 @@ returns-then-due-eq0-2 c =
     let number : let a = c.args in c.then_marking-refusal.result ≡ judged a.t a.m = judged_by _ _ c.judge_table.ensures c.then_marking-refusal.ensures in
     let granted : judged c.args.t c.args.m ≡ 0 = sym (number) ∙ c.if-refusal-ne0.false in
     let good : let a = c.args in judged a.t a.m ≡ 0 = granted in
-    let second_told : let a = c.args in (after : Marking) × ((c.due-2.result ≡ due_set after) × Tried a.t a.m a.fallback.now c.tried-second.result after) = let a = c.args in let words = (c.derived.ensures.derived, c.derived.ensures.linked) in let stands = laid_out a.t a.m (good) c.lay.ensures in let w = c.tried-second.ensures.stands a.t (unused a.m) a.m (good) words.derived words.linked c.head_of-head.ensures stands in (w.0, (c.due-2.ensures (unused a.m) w.0 w.1, w.2)) in
-    let first_told : let a = c.args in (after : Marking) × ((c.due.result ≡ due_set after) × Tried a.t a.m a.preferred.now c.tried-first.result after) = let a = c.args in let words = (c.derived.ensures.derived, c.derived.ensures.linked) in let stands = laid_out a.t a.m (good) c.lay.ensures in let w = c.tried-first.ensures.stands a.t (unused a.m) a.m (good) words.derived words.linked c.head_of-head.ensures stands in (w.0, (c.due.ensures (unused a.m) w.0 w.1, w.2)) in
+    let second_told : let a = c.args in (after : Marking) × ((c.due-2.result ≡ due_set after) × Tried a.t a.m a.fallback.now c.tried-second.result after) = let a = c.args in let words = c.derived.ensures in let stands = laid_out a.t a.m (good) c.lay.ensures in let w = c.tried-second.ensures.stands a.t (unused a.m) a.m (good) words.derived words.linked c.head_of-head.ensures stands in (w.0, (c.due-2.ensures (unused a.m) w.0 w.1, w.2)) in
+    let first_told : let a = c.args in (after : Marking) × ((c.due.result ≡ due_set after) × Tried a.t a.m a.preferred.now c.tried-first.result after) = let a = c.args in let words = c.derived.ensures in let stands = laid_out a.t a.m (good) c.lay.ensures in let w = c.tried-first.ensures.stands a.t (unused a.m) a.m (good) words.derived words.linked c.head_of-head.ensures stands in (w.0, (c.due.ensures (unused a.m) w.0 w.1, w.2)) in
     let none_first : let a = c.args in shortest a.t a.m a.preferred.now ≡ length a.preferred.now + 1 = let w = first_told in none_found w.1.1 (λ z. c.if-due-eq0.false (w.1.0 ∙ z)) in
     let a = c.args in
     let w = second_told in
@@ -140,9 +140,9 @@ returns-then-due-eq0-2 c =
     let e =
     remedy_second a.t a.m a.preferred.now a.fallback.now (granted) c.if-preferred-gt-LONGEST_LIST.false c.if-fallback-gt-LONGEST_LIST.false
     (omega (arith, none_first)) (rw is c.tried-second.ensures.upper_bound) in record {
-      stretch = ((rw (e, is), (rw e, rw e))).0;
-      own = ((rw (e, is), (rw e, rw e))).1;
-      number = ((rw (e, is), (rw e, rw e))).2;
+      stretch = rw (e, is);
+      own = rw e;
+      number = rw e;
     }
 
 pub returns : goal.returns
@@ -150,8 +150,8 @@ returns c =
     let number : let a = c.args in c.then_marking-refusal.result ≡ judged a.t a.m = judged_by _ _ c.judge_table.ensures c.then_marking-refusal.ensures in
     let granted : judged c.args.t c.args.m ≡ 0 = sym (number) ∙ c.if-refusal-ne0.false in
     let good : let a = c.args in judged a.t a.m ≡ 0 = granted in
-    let second_told : let a = c.args in (after : Marking) × ((c.due-2.result ≡ due_set after) × Tried a.t a.m a.fallback.now c.tried-second.result after) = let a = c.args in let words = (c.derived.ensures.derived, c.derived.ensures.linked) in let stands = laid_out a.t a.m (good) c.lay.ensures in let w = c.tried-second.ensures.stands a.t (unused a.m) a.m (good) words.derived words.linked c.head_of-head.ensures stands in (w.0, (c.due-2.ensures (unused a.m) w.0 w.1, w.2)) in
-    let first_told : let a = c.args in (after : Marking) × ((c.due.result ≡ due_set after) × Tried a.t a.m a.preferred.now c.tried-first.result after) = let a = c.args in let words = (c.derived.ensures.derived, c.derived.ensures.linked) in let stands = laid_out a.t a.m (good) c.lay.ensures in let w = c.tried-first.ensures.stands a.t (unused a.m) a.m (good) words.derived words.linked c.head_of-head.ensures stands in (w.0, (c.due.ensures (unused a.m) w.0 w.1, w.2)) in
+    let second_told : let a = c.args in (after : Marking) × ((c.due-2.result ≡ due_set after) × Tried a.t a.m a.fallback.now c.tried-second.result after) = let a = c.args in let words = c.derived.ensures in let stands = laid_out a.t a.m (good) c.lay.ensures in let w = c.tried-second.ensures.stands a.t (unused a.m) a.m (good) words.derived words.linked c.head_of-head.ensures stands in (w.0, (c.due-2.ensures (unused a.m) w.0 w.1, w.2)) in
+    let first_told : let a = c.args in (after : Marking) × ((c.due.result ≡ due_set after) × Tried a.t a.m a.preferred.now c.tried-first.result after) = let a = c.args in let words = c.derived.ensures in let stands = laid_out a.t a.m (good) c.lay.ensures in let w = c.tried-first.ensures.stands a.t (unused a.m) a.m (good) words.derived words.linked c.head_of-head.ensures stands in (w.0, (c.due.ensures (unused a.m) w.0 w.1, w.2)) in
     let none_first : let a = c.args in shortest a.t a.m a.preferred.now ≡ length a.preferred.now + 1 = let w = first_told in none_found w.1.1 (λ z. c.if-due-eq0.false (w.1.0 ∙ z)) in
     let a = c.args in
     let w = second_told in
@@ -159,7 +159,7 @@ returns c =
     let e =
     remedy_none a.t a.m a.preferred.now a.fallback.now (granted) c.if-preferred-gt-LONGEST_LIST.false c.if-fallback-gt-LONGEST_LIST.false
     (omega (arith, none_first)) (omega (arith, none)) in record {
-      stretch = ((rw e, (rw e, rw e))).0;
-      own = ((rw e, (rw e, rw e))).1;
-      number = ((rw e, (rw e, rw e))).2;
+      stretch = rw e;
+      own = rw e;
+      number = rw e;
     }

@@ -71,4 +71,4 @@ returns c =
     let none : a.beyond ≡ 0 = c.if-beyond-ne0.false in
     rw none
     (steps_told a.t a.m a.steps.now a.output.now (sym c.bytes_number-number.ensures ∙ c.if-number-ne0.false) c.requires.longest_output_in_bounds
-    played.new.1.1.1.0 played.ensures.1 played.result played.ensures.0 _ written.ensures.1)
+    played.new.answers played.ensures.answers_after played.result played.ensures.value _ written.ensures.bytes)

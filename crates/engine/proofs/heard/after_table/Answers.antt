@@ -20,16 +20,16 @@ returns-then-read-ne0 c =
     subst (λ (l : List ℕ). AtStart l a.output.now 1 (set a.output.now 0 read.result.number))
     (sym (marking_refused a.t a.rest.now a.beyond c.least-size.result
     c.least-size.ensures read.result read.ensures c.if-read-ne0.true))
-    (told_one _ _ (omega (arith, c.requires.longest_output_in_bounds.0)))
+    (told_one _ _ (omega (arith, c.requires.longest_output_in_bounds)))
 
 pub after_marking-requires : goal.after_marking-requires
 after_marking-requires c =
     let a = c.args in
     let read = c.read_marking-read in
     let pre = c.requires in record {
-      longest_output_in_bounds = pre.1.0;
+      longest_output_in_bounds = pre.longest_output_in_bounds;
       fact = steps_there a.t a.rest.now a.beyond c.least-size.result
-          c.least-size.ensures read.result read.ensures pre.0 pre.1.1;
+          c.least-size.ensures read.result read.ensures pre.events_le_most_events pre.fact;
     }
 
 pub returns : goal.returns

@@ -28,18 +28,9 @@ after_table-requires c =
     let part = c.table_part-size in
     let read = c.read_table-read in
     let done = c.if-read-ne0.false in record {
-      events_le_most_events = ((
-      few_read a.input.now a.beyond c.requires.fact part.result part.ensures read.result read.ensures done,
-      (c.requires.longest_output_in_bounds, rest_there a.input.now a.beyond c.requires.fact part.result part.ensures read.result read.ensures done),
-    )).0;
-      longest_output_in_bounds = ((
-      few_read a.input.now a.beyond c.requires.fact part.result part.ensures read.result read.ensures done,
-      (c.requires.longest_output_in_bounds, rest_there a.input.now a.beyond c.requires.fact part.result part.ensures read.result read.ensures done),
-    )).1;
-      fact = ((
-      few_read a.input.now a.beyond c.requires.fact part.result part.ensures read.result read.ensures done,
-      (c.requires.longest_output_in_bounds, rest_there a.input.now a.beyond c.requires.fact part.result part.ensures read.result read.ensures done),
-    )).2;
+      events_le_most_events = few_read a.input.now a.beyond c.requires.fact part.result part.ensures read.result read.ensures done;
+      longest_output_in_bounds = c.requires.longest_output_in_bounds;
+      fact = rest_there a.input.now a.beyond c.requires.fact part.result part.ensures read.result read.ensures done;
     }
 
 pub returns : goal.returns
@@ -48,7 +39,7 @@ returns c =
     let part = c.table_part-size in
     let read = c.read_table-read in
     let after = c.after_table in
-    subst (λ (l : List ℕ). AtStart l a.output.now after.result after.new.1.1.1.0)
+    subst (λ (l : List ℕ). AtStart l a.output.now after.result after.new.output)
     (table_read a.input.now a.beyond c.requires.fact part.result part.ensures read.result read.ensures
     c.if-read-ne0.false)
     after.ensures

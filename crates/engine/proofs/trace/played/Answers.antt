@@ -12,17 +12,6 @@ use Rattle.acts.specs.Laws.Judging.{table_good, few_records, some_events, laid_o
 use Rattle.engine.specs.Laws.Playing.{Playing, playing_first, playing_accepts, playing_more, playing_last}
 use Rattle.engine.proofs.trace.played.Goals as goal
 
-abbrev start : tie.At-loop invariant-loop decreases-loop → tie.Start invariant-loop decreases-loop
-start at = at.before.before.before.before.before.before.before.before.before.before
-
--- what is known at the loop of the table at hand
-playing : (at : tie.At-loop invariant-loop decreases-loop)
-    → Playing (start at).args.t (start at).args.m (start at).args.steps.now (start at).args.answers.now
-    at.loop.i at.loop.clock at.loop.sets at.loop.columns at.loop.accepted at.loop.answers
-playing at =
-    let made = at.before.before.before.before.before.derived.ensures in
-    at.loop.invariant.3 (start at).args.t (start at).requires.0 made.0 made.1 at.before.head_of.ensures
-
 pub derived-requires : goal.derived-requires
 derived-requires c = record {
       good_table = table_good _ _ c.requires.m_value;
@@ -42,27 +31,29 @@ loop-i-init c =
 
 pub step-told-requires : goal.step-told-requires
 step-told-requires c =
-    let s = start c in
-    let made = (c.derived.ensures.derived, c.derived.ensures.linked) in
+    let made = c.derived.ensures in
     let events = ap {B = ℕ} (λ (h : Head). h.events) c.head_of-head.ensures in
-    let few = (table_good _ _ s.pre.0).few_events in
-    (omega (arith, events, some_events _ _ s.pre.0), omega (arith, events, few), made.derived.size, made.linked.size, omega (arith, s.pre.1.1))
+    let few = (table_good _ _ c.requires.m_value).few_events in
+    (omega (arith, events, some_events _ _ c.requires.m_value), omega (arith, events, few), made.derived.size, made.linked.size, omega (arith, c.requires.steps_in_bounds.1))
 
 pub bounds-answers-i : goal.bounds-answers-i
 bounds-answers-i c =
-    omega (arith, (playing c).going.after.same-room, (start c).requires.1.0)
+    let playing : Playing c.args.t c.args.m c.args.steps.now c.args.answers.now
+          c.loop-i.i c.loop-i.clock c.loop-i.sets c.loop-i.columns c.loop-i.accepted c.loop-i.answers =
+        c.loop-i.invariant.3 c.args.t c.requires.m_value c.derived.ensures.derived c.derived.ensures.linked c.head_of-head.ensures in
+    omega (arith, playing.going.after.same_room, c.requires.steps_in_bounds.0)
 
 pub overflow_add-i : goal.overflow_add-i
 overflow_add-i c =
-    let more : c.loop-i.i < length (start c).args.steps.now / 2 = omega arith in
-    omega (arith, more, (start c).requires.1.1)
+    let more : c.loop-i.i < length c.args.steps.now / 2 = omega arith in
+    omega (arith, more, c.requires.steps_in_bounds.1)
 
 pub loop-i-preserved : goal.loop-i-preserved
 loop-i-preserved c =
-    let a = (start c).args in
+    let a = c.args in
     let l = c.loop-i in
     let more : l.i < length a.steps.now / 2 = omega arith in
-    let room : l.i < length a.answers.now = omega (arith, (start c).requires.1.0) in (
+    let room : l.i < length a.answers.now = omega (arith, c.requires.steps_in_bounds.0) in (
       omega arith,
       l.invariant.1,
       omega (arith, c.step-told.ensures.clock_bound),
@@ -73,15 +64,22 @@ loop-i-preserved c =
     )
 
 pub give-requires : goal.give-requires
-give-requires c = few_records _ _ (start c).pre.0
+give-requires c = few_records _ _ c.requires.m_value
 
 pub shape_of-answers : goal.shape_of-answers
-shape_of-answers c = (playing c).going.after.same-room
+shape_of-answers c =
+    let playing : Playing c.args.t c.args.m c.args.steps.now c.args.answers.now
+          c.loop-i.i c.loop-i.clock c.loop-i.sets c.loop-i.columns c.loop-i.accepted c.loop-i.answers =
+        c.loop-i.invariant.3 c.args.t c.requires.m_value c.derived.ensures.derived c.derived.ensures.linked c.head_of-head.ensures in
+    playing.going.after.same_room
 
 pub returns : goal.returns
 returns c =
-    let a = (start c).args in
-    let p = playing c in record {
-      value = (playing_last p (omega arith) (given_back a.t a.m (start c).requires.0 _ _ _ c.give.ensures p.stands)).0;
-      answers_after = (playing_last p (omega arith) (given_back a.t a.m (start c).requires.0 _ _ _ c.give.ensures p.stands)).1;
+    let playing : Playing c.args.t c.args.m c.args.steps.now c.args.answers.now
+          c.loop-i.i c.loop-i.clock c.loop-i.sets c.loop-i.columns c.loop-i.accepted c.loop-i.answers =
+        c.loop-i.invariant.3 c.args.t c.requires.m_value c.derived.ensures.derived c.derived.ensures.linked c.head_of-head.ensures in
+    let a = c.args in
+    let p = playing in record {
+      value = (playing_last p (omega arith) (given_back a.t a.m c.requires.m_value _ _ _ c.give.ensures p.stands)).0;
+      answers_after = (playing_last p (omega arith) (given_back a.t a.m c.requires.m_value _ _ _ c.give.ensures p.stands)).1;
     }
