@@ -1,5 +1,5 @@
 -- What the call answers, and what the list then holds, by how it ended. Assumes nothing.
-use Rattle.std.specs.Prelude.{◌≡◌, true, false, List, ◌++◌, ℕ, ◌+◌, ◌<◌, ◌≤◌, leb, length}
+use Rattle.std.specs.Prelude.{◌≡◌, true, false, List, ◌++◌, ℕ, ◌<◌, ◌≤◌, leb, length}
 use Rattle.std.proofs.Math.Path.{refl, ap}
 use Rattle.std.proofs.Common.{sym, subst, ◌∙◌, zero-add, arith}
 use Rattle.std.proofs.Math.ListN.{drop, length-map}
@@ -9,9 +9,8 @@ use Rattle.rules.specs.declared.Table.{Table}
 use Rattle.rules.specs.declared.Marking.{Marking}
 use Rattle.rules.specs.declared.CheckAnswer.TheVariants.{Refused, Accepts, Rejects}
 use Rattle.rules.specs.declared.SleptAnswer.{SleptAnswer}
-use Rattle.rules.specs.Numbers.{◌else◌}
 use Rattle.rules.specs.Judge.{judged}
-use Rattle.rules.specs.Check.{reason, verdict}
+use Rattle.rules.specs.Check.{verdict}
 use Rattle.rules.specs.Sleep.{most_ticks, slept, slept_caused, sleep_number, sleep_answer, place_of, places_of, sleep_list}
 use Rattle.rules.proofs.Laws.Numbers.{else_refused}
 use Rattle.rules.proofs.Laws.Check.{Said, verdict_said}
