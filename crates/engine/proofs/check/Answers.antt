@@ -1,6 +1,5 @@
 -- Judged first, then the verdict that the words come to.
 use mathlib.Core.Path.{◌≡◌, ◌∙◌, sym, refl}
-use borrow.Author.Rules.{rules}
 use Rattle.rules.specs.Judge.{judged}
 use Rattle.rules.proofs.Laws.InNumbers.{check_whole}
 use Rattle.rules.proofs.Laws.Judge.{judged_by}
@@ -47,15 +46,15 @@ returns-then-number-eq0 c =
     let a = c.args in
     let d = granted in record {
       answer = (check_whole _ _
-    (c.verdict.ensures
-    ∙ c.found-found.ensures a.t (unused a.m) 0 _ a.m (table_good _ _ d) c.rows_of.ensures.derived c.head_of-head.ensures
-    (laid_out a.t a.m d c.lay.ensures)
-    ∙ sym (check_judged _ _ d))).0;
+          (c.verdict.ensures
+          ∙ c.found-found.ensures a.t (unused a.m) 0 _ a.m (table_good _ _ d) c.rows_of.ensures.derived c.head_of-head.ensures
+          (laid_out a.t a.m d c.lay.ensures)
+          ∙ sym (check_judged _ _ d))).0;
       told = (check_whole _ _
-    (c.verdict.ensures
-    ∙ c.found-found.ensures a.t (unused a.m) 0 _ a.m (table_good _ _ d) c.rows_of.ensures.derived c.head_of-head.ensures
-    (laid_out a.t a.m d c.lay.ensures)
-    ∙ sym (check_judged _ _ d))).1;
+          (c.verdict.ensures
+          ∙ c.found-found.ensures a.t (unused a.m) 0 _ a.m (table_good _ _ d) c.rows_of.ensures.derived c.head_of-head.ensures
+          (laid_out a.t a.m d c.lay.ensures)
+          ∙ sym (check_judged _ _ d))).1;
     }
 
 pub returns : goal.returns

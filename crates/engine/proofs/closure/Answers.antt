@@ -1,9 +1,8 @@
 -- Judged first, then the relations noted one by one, and the closure of the busy events, by words, with its size.
 use mathlib.Core.Path.{◌≡◌, ◌∙◌, ap, sym, subst, refl}
-use Prim.Native.Nat.{ℕ, ◌≤◌, ◌<◌, ◌-◌}
+use Prim.Native.Nat.{ℕ, ◌<◌}
 use native.Mathlib.Omega.{arith}
 use borrow.Author.Tests.{ne_eqb}
-use Rattle.rules.specs.declared.Table.{Table}
 use Rattle.rules.specs.declared.ClosureAnswer.{ClosureAnswer}
 use Rattle.rules.specs.EventSet.{size_of}
 use Rattle.rules.specs.Holds.{relation_of}

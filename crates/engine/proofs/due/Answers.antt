@@ -1,7 +1,6 @@
 -- Judged first, then the due events, by words.
 use mathlib.Core.Path.{◌≡◌, ◌∙◌, ap, sym, refl}
 use Prim.Native.Nat.{ℕ}
-use borrow.Author.Rules.{rules}
 use borrow.Author.Tests.{ne_eqb}
 use Rattle.rules.specs.declared.SetAnswer.{SetAnswer}
 use Rattle.rules.specs.Judge.{judged}

@@ -1,7 +1,6 @@
 -- `enabled` gives the judge's number, and the enabled test where that is 'done'.
 use mathlib.Core.Path.{◌≡◌, sym, ◌∙◌}
 use borrow.Author.Tests.{ne_eqb}
-use borrow.Author.Rules.{rules}
 use Rattle.rules.specs.Numbers.{◌else◌}
 use Rattle.rules.specs.Judge.{judged, event_number}
 use Rattle.rules.specs.Enabled.{enabled_answer}

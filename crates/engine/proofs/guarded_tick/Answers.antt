@@ -1,7 +1,6 @@
 -- Judged first, then by the verdict that the words come to; what is accepted is done in the words, and given back.
 use mathlib.Core.Path.{◌≡◌, ◌∙◌, sym, refl}
 use native.Mathlib.Omega.{arith}
-use borrow.Author.Rules.{rules}
 use Rattle.rules.specs.Judge.{judged}
 use Rattle.rules.specs.declared.CheckAnswer.TheVariants.{Accepts}
 use Rattle.rules.specs.Check.{verdict}

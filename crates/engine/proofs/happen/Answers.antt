@@ -1,7 +1,6 @@
 -- Judged first; the event's words and the marking's are made, the event happens, and the marking that the words then stand for is given back.
 use mathlib.Core.Path.{◌≡◌, refl, sym, ◌∙◌}
 use native.Mathlib.Omega.{arith}
-use borrow.Author.Rules.{rules}
 use Rattle.rules.specs.Numbers.{done}
 use Rattle.rules.specs.Judge.{judged}
 use Rattle.rules.specs.Effect.{effect}

@@ -1,7 +1,6 @@
 -- `hold_up` gives the judge's number, and what holds the event up where that is 'done'.
 use mathlib.Core.Path.{◌≡◌, sym, ◌∙◌}
 use borrow.Author.Tests.{ne_eqb}
-use borrow.Author.Rules.{rules}
 use Rattle.rules.specs.Numbers.{◌else◌}
 use Rattle.rules.specs.declared.HoldUpAnswer.TheVariants.{Refused}
 use Rattle.rules.specs.Judge.{judged, event_number}

@@ -3,7 +3,6 @@ use mathlib.Core.Path.{◌≡◌, sym, ◌∙◌}
 use mathlib.Core.Bool.{not}
 use native.Mathlib.Omega.{arith}
 use borrow.Author.Tests.{lt-ltb, le-ltb, ne_eqb}
-use borrow.Author.Rules.{rules}
 use lib.Dec.{ltb}
 use Rattle.rules.specs.Numbers.{◌if◌}
 use Rattle.rules.specs.declared.MarginAnswer.TheVariants.{Refused}

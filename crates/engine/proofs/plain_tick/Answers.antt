@@ -1,7 +1,6 @@
 -- Judged first; where nothing is due the clock moves on, and the marking that the words then stand for is given back.
 use mathlib.Core.Path.{◌≡◌, ◌∙◌, sym, refl}
 use native.Mathlib.Omega.{arith}
-use borrow.Author.Rules.{rules}
 use Rattle.rules.specs.Judge.{judged}
 use Rattle.rules.specs.Time.{due_set, time}
 use Rattle.rules.proofs.Laws.Judge.{judged_by}

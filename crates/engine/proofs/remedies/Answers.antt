@@ -5,7 +5,6 @@ use Prim.Native.Nat.{◌+◌, ◌<◌, ◌≤◌}
 use native.Mathlib.Omega.{arith}
 use lib.ListN.{length}
 use lib.Seq.{length-take-le}
-use borrow.Author.Rules.{rules}
 use Rattle.rules.specs.declared.Marking.{Marking}
 use Rattle.rules.specs.Judge.{judged}
 use Rattle.rules.specs.Time.{due_set}

@@ -3,7 +3,6 @@ use mathlib.Core.Path.{ap, sym, ◌∙◌}
 use lib.ListN.{length}
 use Rattle.rules.specs.declared.Marking.{Marking}
 use Rattle.rules.proofs.Laws.Trace.{bytes_granted, bytes_done, bytes_refused}
-use borrow.Author.Rules.{rules}
 use Rattle.engine.proofs.run_bytes.Goals as goal
 
 pub played-after-requires : goal.played-after-requires

@@ -2,14 +2,13 @@
 use mathlib.Core.Path.{◌∙◌, sym}
 use Rattle.rules.proofs.Laws.Station.{heard_granted}
 use Rattle.engine.specs.Laws.Heard.{call_refused, call_done}
-use borrow.Author.Rules.{rules}
 use Rattle.engine.proofs.station.Goals as goal
 
 pub whole-count-requires : goal.whole-count-requires
 whole-count-requires c = record {
-      longest_output_in_bounds = (heard_granted _ _ _ (sym c.number-number.ensures ∙ c.if-number-eq0.true)).0;
-      fact = (heard_granted _ _ _ (sym c.number-number.ensures ∙ c.if-number-eq0.true)).1;
-    }
+  longest_output_in_bounds = (heard_granted _ _ _ (sym c.number-number.ensures ∙ c.if-number-eq0.true)).0;
+  fact = (heard_granted _ _ _ (sym c.number-number.ensures ∙ c.if-number-eq0.true)).1;
+}
 
 pub returns-then-number-eq0 : goal.returns-then-number-eq0
 returns-then-number-eq0 c =
@@ -20,6 +19,6 @@ returns-then-number-eq0 c =
 
 pub returns : goal.returns
 returns c = record {
-      answer = (call_refused _ _ _ c.number-number.ensures c.if-number-eq0.false).0;
-      output = (call_refused _ _ _ c.number-number.ensures c.if-number-eq0.false).1;
-    }
+  answer = (call_refused _ _ _ c.number-number.ensures c.if-number-eq0.false).0;
+  output = (call_refused _ _ _ c.number-number.ensures c.if-number-eq0.false).1;
+}

@@ -10,7 +10,6 @@ use Rattle.rules.proofs.Laws.Judge.{good}
 use Rattle.engine.specs.Heard.{after_marking}
 use Rattle.duties.specs.AtStart.{AtStart}
 use Rattle.engine.specs.Laws.Heard.{steps_long, steps_refused, steps_granted, still_long, steps_told, told_one}
-use borrow.Author.Rules.{rules}
 use Rattle.engine.proofs.heard.after_marking.Goals as goal
 
 pub returns-then-beyond-ne0 : goal.returns-then-beyond-ne0

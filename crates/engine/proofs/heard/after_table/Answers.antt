@@ -7,7 +7,6 @@ use lib.ListN.{set}
 use lib.Seq.{length-take-le}
 use Rattle.duties.specs.AtStart.{AtStart}
 use Rattle.engine.specs.Laws.Heard.{marking_refused, marking_read, steps_there, told_one}
-use borrow.Author.Rules.{rules}
 use Rattle.engine.proofs.heard.after_table.Goals as goal
 
 pub slice_bounds-read_marking-end : goal.slice_bounds-read_marking-end

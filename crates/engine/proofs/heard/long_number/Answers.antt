@@ -5,7 +5,6 @@ use Rattle.rules.specs.Judge.{judged}
 use Rattle.rules.proofs.Laws.Numbers.{else_refused}
 use Rattle.rules.proofs.Laws.Judge.{judged_by}
 use Rattle.engine.specs.Laws.Heard.{parity}
-use borrow.Author.Rules.{rules}
 use Rattle.engine.proofs.heard.long_number.Goals as goal
 
 pub returns-then-kept-beyond-eq1 : goal.returns-then-kept-beyond-eq1

@@ -4,7 +4,6 @@ use Prim.Native.Nat.{◌<◌}
 use native.Mathlib.Omega.{arith}
 use lib.ListN.{get_or}
 use Rattle.engine.specs.Laws.Heard.{header_is}
-use borrow.Author.Rules.{rules}
 use Rattle.engine.proofs.heard.table_part.Goals as goal
 
 pub overflow_cast-first : goal.overflow_cast-first

@@ -7,7 +7,6 @@ use lib.ListN.{set}
 use lib.Seq.{length-take-le}
 use Rattle.duties.specs.AtStart.{AtStart}
 use Rattle.engine.specs.Laws.Heard.{table_refused, table_read, few_read, rest_there, told_one}
-use borrow.Author.Rules.{rules}
 use Rattle.engine.proofs.heard.whole.Goals as goal
 
 pub slice_bounds-read_table-end : goal.slice_bounds-read_table-end

@@ -1,7 +1,6 @@
 -- Two tests, in the definition's order.
 use mathlib.Core.Path.{sym, ◌∙◌}
 use mathlib.Core.Bool.{true≢false}
-use borrow.Author.Rules.{rules}
 use Rattle.rules.proofs.Laws.Time.{none_due_yet, some_due_still}
 use Rattle.engine.specs.Laws.Trial.{stands_headed}
 use Rattle.engine.proofs.remedy.goes_on.Goals as goal

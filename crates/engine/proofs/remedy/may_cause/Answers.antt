@@ -2,7 +2,6 @@
 use mathlib.Core.Path.{sym, ◌∙◌}
 use mathlib.Core.Bool.{true≢false}
 use native.Mathlib.Omega.{arith}
-use borrow.Author.Rules.{rules}
 use Rattle.acts.specs.Laws.Linked.{derived_own}
 use Rattle.engine.specs.Laws.Trial.{cause_enabled, cause_not, cause_missing, exists_headed}
 use Rattle.engine.proofs.remedy.may_cause.Goals as goal

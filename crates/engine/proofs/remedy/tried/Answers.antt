@@ -1,11 +1,7 @@
 -- One pass. What is known on the way is the law's: the words stand for the marking after the events caused so far.
-use mathlib.Core.Path.{◌≡◌, refl}
-use Prim.Native.Nat.{◌≤◌, ◌-◌}
+use mathlib.Core.Path.{refl}
 use native.Mathlib.Omega.{arith}
-use lib.ListN.{length}
-use borrow.Author.Rules.{rules}
-use Rattle.rules.proofs.Laws.Tests.{not_true, not_false}
-use Rattle.engine.specs.Laws.Trial.{Trying, trying_none, trying_more, trying_stopped, trying_ended}
+use Rattle.engine.specs.Laws.Trial.{trying_none, trying_more, trying_stopped, trying_ended}
 use Rattle.engine.proofs.remedy.tried.Goals as goal
 
 pub loop-i-init : goal.loop-i-init

@@ -1,11 +1,8 @@
 -- One pass. What is known on the way is the law's: the words stand for the marking after the events caused so far.
-use mathlib.Core.Path.{◌≡◌, refl}
+use mathlib.Core.Path.{◌≡◌}
 use Prim.Native.Nat.{◌≤◌, ◌-◌}
-use native.Mathlib.Omega.{arith}
 use lib.ListN.{length}
-use borrow.Author.Rules.{rules}
-use Rattle.rules.proofs.Laws.Tests.{not_true, not_false}
-use Rattle.engine.specs.Laws.Trial.{Trying, trying_none, trying_more, trying_stopped, trying_ended}
+use Rattle.engine.specs.Laws.Trial.{Trying}
 use Rattle.engine.proofs.remedy.tried.Given as goal
 
 abbrev pub invariant-loop-i : goal.invariant-loop-i

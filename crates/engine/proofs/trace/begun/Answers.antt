@@ -7,7 +7,6 @@ use Rattle.rules.specs.Trace.{trace_number}
 use Rattle.rules.proofs.Laws.Numbers.{else_refused}
 use Rattle.rules.proofs.Laws.Judge.{judged_by}
 use Rattle.engine.specs.Running.{begun_run}
-use borrow.Author.Rules.{rules}
 use Rattle.engine.proofs.trace.begun.Goals as goal
 
 pub returns-then-number-eq0-2 : goal.returns-then-number-eq0-2

@@ -4,7 +4,6 @@ use borrow.Author.Tests.{eq-eqb, ne_eqb}
 use Rattle.rules.specs.Judge.{judged}
 use Rattle.rules.proofs.Laws.Numbers.{else_refused}
 use Rattle.rules.proofs.Laws.Judge.{judged_by}
-use borrow.Author.Rules.{rules}
 use Rattle.engine.proofs.trace.bytes_number.Goals as goal
 
 pub returns-then-bytes-eq1 : goal.returns-then-bytes-eq1

@@ -1,28 +1,24 @@
 -- Step after step over the words, as the laws of a run go; what is known of them is said of any table that they are those of.
-use mathlib.Core.Path.{◌≡◌, refl, ap}
-use Prim.Native.Nat.{ℕ, ◌<◌, ◌≤◌, ◌-◌, ◌/◌}
+use mathlib.Core.Path.{refl, ap}
+use Prim.Native.Nat.{ℕ, ◌<◌, ◌/◌}
 use native.Mathlib.Omega.{arith}
 use lib.ListN.{length}
-use borrow.Author.Rules.{rules}
-use Rattle.rules.specs.declared.Table.{Table}
-use Rattle.rules.specs.Judge.{judged}
 use Rattle.acts.specs.declared.derived.Head.{Head}
-use Rattle.acts.specs.Derived.{head_of, Derived, Linked}
 use Rattle.acts.specs.Laws.Judging.{table_good, few_records, some_events, laid_out, given_back}
 use Rattle.engine.specs.Laws.Playing.{Playing, playing_first, playing_accepts, playing_more, playing_last}
 use Rattle.engine.proofs.trace.played.Goals as goal
 
 pub derived-requires : goal.derived-requires
 derived-requires c = record {
-      good_table = table_good _ _ c.requires.m_value;
-      rows_value = (refl, refl);
-    }
+  good_table = table_good _ _ c.requires.m_value;
+  rows_value = (refl, refl);
+}
 
 pub lay-requires : goal.lay-requires
 lay-requires c = record {
-      events_bound = few_records _ _ c.requires.m_value;
-      sets_len = (refl, refl);
-    }
+  events_bound = few_records _ _ c.requires.m_value;
+  sets_len = (refl, refl);
+}
 
 pub loop-i-init : goal.loop-i-init
 loop-i-init c =
@@ -39,8 +35,8 @@ step-told-requires c =
 pub bounds-answers-i : goal.bounds-answers-i
 bounds-answers-i c =
     let playing : Playing c.args.t c.args.m c.args.steps.now c.args.answers.now
-          c.loop-i.i c.loop-i.clock c.loop-i.sets c.loop-i.columns c.loop-i.accepted c.loop-i.answers =
-        c.loop-i.invariant.3 c.args.t c.requires.m_value c.derived.ensures.derived c.derived.ensures.linked c.head_of-head.ensures in
+    c.loop-i.i c.loop-i.clock c.loop-i.sets c.loop-i.columns c.loop-i.accepted c.loop-i.answers =
+    c.loop-i.invariant.3 c.args.t c.requires.m_value c.derived.ensures.derived c.derived.ensures.linked c.head_of-head.ensures in
     omega (arith, playing.going.after.same_room, c.requires.steps_in_bounds.0)
 
 pub overflow_add-i : goal.overflow_add-i
@@ -69,15 +65,15 @@ give-requires c = few_records _ _ c.requires.m_value
 pub shape_of-answers : goal.shape_of-answers
 shape_of-answers c =
     let playing : Playing c.args.t c.args.m c.args.steps.now c.args.answers.now
-          c.loop-i.i c.loop-i.clock c.loop-i.sets c.loop-i.columns c.loop-i.accepted c.loop-i.answers =
-        c.loop-i.invariant.3 c.args.t c.requires.m_value c.derived.ensures.derived c.derived.ensures.linked c.head_of-head.ensures in
+    c.loop-i.i c.loop-i.clock c.loop-i.sets c.loop-i.columns c.loop-i.accepted c.loop-i.answers =
+    c.loop-i.invariant.3 c.args.t c.requires.m_value c.derived.ensures.derived c.derived.ensures.linked c.head_of-head.ensures in
     playing.going.after.same_room
 
 pub returns : goal.returns
 returns c =
     let playing : Playing c.args.t c.args.m c.args.steps.now c.args.answers.now
-          c.loop-i.i c.loop-i.clock c.loop-i.sets c.loop-i.columns c.loop-i.accepted c.loop-i.answers =
-        c.loop-i.invariant.3 c.args.t c.requires.m_value c.derived.ensures.derived c.derived.ensures.linked c.head_of-head.ensures in
+    c.loop-i.i c.loop-i.clock c.loop-i.sets c.loop-i.columns c.loop-i.accepted c.loop-i.answers =
+    c.loop-i.invariant.3 c.args.t c.requires.m_value c.derived.ensures.derived c.derived.ensures.linked c.head_of-head.ensures in
     let a = c.args in
     let p = playing in record {
       value = (playing_last p (omega arith) (given_back a.t a.m c.requires.m_value _ _ _ c.give.ensures p.stands)).0;

@@ -1,15 +1,11 @@
 -- Step after step over the words, as the laws of a run go; what is known of them is said of any table that they are those of.
-use mathlib.Core.Path.{◌≡◌, refl, ap}
-use Prim.Native.Nat.{ℕ, ◌<◌, ◌≤◌, ◌-◌, ◌/◌}
-use native.Mathlib.Omega.{arith}
+use mathlib.Core.Path.{◌≡◌}
+use Prim.Native.Nat.{◌≤◌, ◌-◌, ◌/◌}
 use lib.ListN.{length}
-use borrow.Author.Rules.{rules}
 use Rattle.rules.specs.declared.Table.{Table}
 use Rattle.rules.specs.Judge.{judged}
-use Rattle.acts.specs.declared.derived.Head.{Head}
 use Rattle.acts.specs.Derived.{head_of, Derived, Linked}
-use Rattle.acts.specs.Laws.Judging.{table_good, few_records, some_events, laid_out, given_back}
-use Rattle.engine.specs.Laws.Playing.{Playing, playing_first, playing_accepts, playing_more, playing_last}
+use Rattle.engine.specs.Laws.Playing.{Playing}
 use Rattle.engine.proofs.trace.played.Given as goal
 
 abbrev pub invariant-loop-i : goal.invariant-loop-i

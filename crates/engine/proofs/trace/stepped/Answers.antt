@@ -5,14 +5,13 @@ use native.Mathlib.Omega.{arith}
 use Rattle.acts.specs.declared.derived.Head.{Head}
 use Rattle.acts.specs.Laws.Judging.{table_good, few_records, some_events, laid_out, given_back}
 use Rattle.engine.specs.Laws.Playing.{further_turned}
-use borrow.Author.Rules.{rules}
 use Rattle.engine.proofs.trace.stepped.Goals as goal
 
 pub lay-requires : goal.lay-requires
 lay-requires c = record {
-      events_bound = few_records _ _ c.requires.0.judged_done;
-      sets_len = (refl, refl);
-    }
+  events_bound = few_records _ _ c.requires.0.judged_done;
+  sets_len = (refl, refl);
+}
 
 pub step-told-requires : goal.step-told-requires
 step-told-requires c =
