@@ -11,40 +11,41 @@ mod record;
 mod step;
 
 use rules::{Marking, Table};
+use std::io::Stdout;
 
-fn end(m: Marking) {
+fn end(out: Stdout, m: Marking) {
     let mut room = [0u8; Marking::RECORD_BYTES * Table::MOST_EVENTS];
     if image::write_marking(m, &mut room) == 0 {
-        io::write_all(1, part::before(&room, part::marking_bytes(m.events)));
+        streams::write_all(out, part::before(&room, part::marking_bytes(m.events)));
     }
 }
 
 // The marking is read, the check asked, the steps behind it are played.
-fn after_table(t: Table, rest: &[u8]) {
+fn after_table(out: Stdout, t: Table, rest: &[u8]) {
     let bytes = part::marking_bytes(t.events);
     let read = image::read_marking(t.events, part::before(rest, bytes));
     if read.number != 0 {
-        record::put_byte(read.number);
+        record::put_byte(out, read.number);
         return;
     }
     let m = read.marking;
-    record::put_check(engine::check(t, m));
-    end(step::play(t, m, part::after(rest, bytes)));
+    record::put_check(out, engine::check(t, m));
+    end(out, step::play(out, t, m, part::after(rest, bytes)));
 }
 
-fn account(input: &[u8]) {
+fn account(out: Stdout, input: &[u8]) {
     let bytes = part::table_bytes(input);
     let read = image::read_table(part::before(input, bytes));
     if read.number != 0 {
-        record::put_byte(read.number);
+        record::put_byte(out, read.number);
         return;
     }
     let t = read.table;
-    after_table(t, part::after(input, bytes));
+    after_table(out, t, part::after(input, bytes));
 }
 
-fn main() {
+fn main(rt: HostRuntime) {
     let mut input = [0u8; engine::LONGEST_INPUT];
-    let kept = io::read_full(0, &mut input);
-    account(&input[..kept]);
+    let kept = streams::read_full(rt.stdin(), &mut input);
+    account(rt.stdout(), &input[..kept]);
 }

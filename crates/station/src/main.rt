@@ -1,10 +1,12 @@
 // The station program: it reads standard input to the end, and then writes what the engine's call answers to it. Where a read fails nothing is
-// written, and a write that fails is not tried again; either is told in one line on standard error, since a program has no exit status to tell
-// it by. Every input is answered by a byte or more, so an empty output is the sign of a read that failed. A read or a write that a signal
-// interrupts counts as one that failed.
+// written, and a write that fails is not tried again; either is told in one line on standard error, and the exit status is 0 all the same. Every
+// input is answered by a byte or more, so an empty output is the sign of a read that failed. A read or a write that a signal interrupts counts as
+// one that failed.
 #![tactic(auto)]
 
 ghost use Rattle.std.specs.Prelude.{◌≡◌, ◌⊎◌, ◌+◌, ◌<◌, ◌≤◌, length};
+
+use std::io::{Read, Stdin};
 
 // What came of reading: so many bytes, and whether a read failed.
 #[derive(Clone, Copy)]
@@ -14,25 +16,29 @@ struct Reading {
 }
 
 // One read, into the space from a place on. At the end of the input it reads no bytes.
-fn read_on(space: &mut [u8], from: usize) -> Reading
+fn read_on(mut input: Stdin, space: &mut [u8], from: usize) -> Reading
     requires { from ≤ length space.old }
     ensures { from + result.count ≤ length space.new }
 {
-    let got = libc::read(0, &mut space[from..]);
-    let count = io::count(got, &space[from..]);
-    Reading {
-        count,
-        failed: got < 0,
+    match input.read(&mut space[from..]) {
+        Ok(count) => Reading {
+            count,
+            failed: false,
+        },
+        Err(_) => Reading {
+            count: 0,
+            failed: true,
+        },
     }
 }
 
 // Reads until the space is full, the input ends or a read fails.
-fn fill(space: &mut [u8]) -> Reading
+fn fill(input: Stdin, space: &mut [u8]) -> Reading
     ensures { result.count ≤ length space.new }
 {
     let mut count = 0;
     while count < space.len() {
-        let more = read_on(space, count);
+        let more = read_on(input, space, count);
         if more.count == 0 {
             return Reading {
                 count,
@@ -49,11 +55,11 @@ fn fill(space: &mut [u8]) -> Reading
 
 // How many bytes come after the kept ones: they are read and counted. A proved loop has to end, and nothing says that the input does: the
 // count stops at a number of bytes that no input has.
-fn beyond() -> Reading {
+fn beyond(input: Stdin) -> Reading {
     let mut count = 0;
     while count < 0x4000_0000_0000_0000 {
-        let mut space = io::buffer();
-        let more = read_on(&mut space, 0);
+        let mut space = [0u8; 4096];
+        let more = read_on(input, &mut space, 0);
         if more.count == 0 {
             return Reading {
                 count,
@@ -69,8 +75,8 @@ fn beyond() -> Reading {
 }
 
 // An input that does not fill the room has nothing after it.
-fn rest(kept: Reading) -> Reading
-    ensures* { do ⌜ (result.count ≡ 0) ⊎ ((← (⟦engine::LONGEST_INPUT⟧).entry) ≤ kept.count) ⌝ }
+fn rest(input: Stdin, kept: Reading) -> Reading
+    ensures { (result.count ≡ 0) ⊎ (engine.LONGEST_INPUT ≤ kept.count) }
 {
     if kept.count < engine::LONGEST_INPUT {
         return Reading {
@@ -78,31 +84,31 @@ fn rest(kept: Reading) -> Reading
             failed: kept.failed,
         };
     }
-    beyond()
+    beyond(input)
 }
 
 // The engine's answer to a whole input: so many bytes at the start of the output, and at least one.
 fn answered(input: &[u8], beyond: usize, output: &mut [u8]) -> usize
-    requires* do_in_bounds { do ⌜ (← ⟦engine::LONGEST_OUTPUT⟧) ≤ length output.old ⌝ }
-    requires* fact { do ⌜ (beyond ≡ 0) ⊎ ((← ⟦engine::LONGEST_INPUT⟧) ≤ length input.now) ⌝ }
+    requires room { engine.LONGEST_OUTPUT ≤ length output.old }
+    requires after { (beyond ≡ 0) ⊎ (engine.LONGEST_INPUT ≤ length input.now) }
     ensures { (0 < result) × (result ≤ length output.new) }
 {
     let answer = engine::station(input, beyond, output);
     answer.count
 }
 
-fn main() {
+fn main(rt: HostRuntime) {
     let mut input = [0u8; engine::LONGEST_INPUT];
-    let first = fill(&mut input);
-    let more = rest(first);
+    let first = fill(rt.stdin(), &mut input);
+    let more = rest(rt.stdin(), first);
     if more.failed {
-        io::write_all(2, b"station: the input could not be read\n");
+        streams::write_all(rt.stderr(), b"station: the input could not be read\n");
         return;
     }
     let mut output = [0u8; engine::LONGEST_OUTPUT];
     let kept = first.count;
     let n = answered(&input[..kept], more.count, &mut output);
-    if !io::write_all(1, &output[..n]) {
-        io::write_all(2, b"station: the output could not be written\n");
+    if !streams::write_all(rt.stdout(), &output[..n]) {
+        streams::write_all(rt.stderr(), b"station: the output could not be written\n");
     }
 }

@@ -7,27 +7,28 @@ mod calls;
 mod engine_calls;
 mod list_calls;
 
+use std::io::{Stdin, Stdout};
 use wire::{frame, given};
 
 // One call; false at the end of the input.
-fn turn() -> bool {
-    let call = frame::next();
+fn turn(input: Stdin, output: Stdout) -> bool {
+    let call = frame::next(input);
     if !call.there {
         return false;
     }
     let mut room = [0u8; 20000];
-    if !frame::payload(call.length, &mut room) {
+    if !frame::payload(input, call.length, &mut room) {
         return false;
     }
     let mut out = [0u8; 20000];
     let n = calls::answer(call.number, given::before(&room, call.length), &mut out);
-    frame::send(n, &mut out)
+    frame::send(output, n, &mut out)
 }
 
 // A proved loop has to end, and nothing says that the input does: the turns count down from a number that no run uses up.
-fn main() {
+fn main(rt: HostRuntime) {
     let mut turns = u64::MAX;
-    while turns > 0 && turn() {
+    while turns > 0 && turn(rt.stdin(), rt.stdout()) {
         turns -= 1;
     }
 }

@@ -1,6 +1,6 @@
 // Frames on standard input and output.
 use crate::bytes;
-use libc::{STDIN_FILENO, STDOUT_FILENO};
+use std::io::{Stdin, Stdout};
 
 // What a call's frame begins with; `there` is false at the end of the input.
 #[derive(Clone, Copy)]
@@ -10,9 +10,9 @@ pub struct Call {
     pub length: usize,
 }
 
-pub fn next() -> Call {
+pub fn next(input: Stdin) -> Call {
     let mut s = [0u8; 3];
-    let n = io::read_full(STDIN_FILENO, &mut s);
+    let n = streams::read_full(input, &mut s);
     Call {
         there: n == 3,
         number: bytes::byte_at(&s, 0),
@@ -21,15 +21,15 @@ pub fn next() -> Call {
 }
 
 // Reads a payload of n bytes to the start of `room`. False if it has no room, or the input ends before.
-pub fn payload(n: usize, room: &mut [u8]) -> bool {
+pub fn payload(input: Stdin, n: usize, room: &mut [u8]) -> bool {
     if room.len() < n {
         return false;
     }
-    io::read_full(STDIN_FILENO, &mut room[0..n]) == n
+    streams::read_full(input, &mut room[0..n]) == n
 }
 
 // Writes the answer of n bytes that stands in `out` from byte 2 on, behind its length.
-pub fn send(n: usize, out: &mut [u8]) -> bool {
+pub fn send(output: Stdout, n: usize, out: &mut [u8]) -> bool {
     bytes::put_number(out, 0, 2, n as u64);
     if out.len() < 2 {
         return false;
@@ -38,5 +38,5 @@ pub fn send(n: usize, out: &mut [u8]) -> bool {
         return false;
     }
     let end = n + 2;
-    io::write_all(STDOUT_FILENO, &out[0..end])
+    streams::write_all(output, &out[0..end])
 }
