@@ -6,6 +6,7 @@
 
 ghost use Rattle.std.specs.Prelude.{◌≡◌, ◌⊎◌, ◌+◌, ◌<◌, ◌≤◌, length};
 
+use engine::{LONGEST_INPUT, LONGEST_OUTPUT};
 use std::io::{Read, Stdin};
 
 // What came of reading: so many bytes, and whether a read failed.
@@ -76,9 +77,9 @@ fn beyond(input: Stdin) -> Reading {
 
 // An input that does not fill the room has nothing after it.
 fn rest(input: Stdin, kept: Reading) -> Reading
-    ensures { (result.count ≡ 0) ⊎ (engine.LONGEST_INPUT ≤ kept.count) }
+    ensures { (result.count ≡ 0) ⊎ (LONGEST_INPUT ≤ kept.count) }
 {
-    if kept.count < engine::LONGEST_INPUT {
+    if kept.count < LONGEST_INPUT {
         return Reading {
             count: 0,
             failed: kept.failed,
@@ -89,8 +90,8 @@ fn rest(input: Stdin, kept: Reading) -> Reading
 
 // The engine's answer to a whole input: so many bytes at the start of the output, and at least one.
 fn answered(input: &[u8], beyond: usize, output: &mut [u8]) -> usize
-    requires room { engine.LONGEST_OUTPUT ≤ length output.old }
-    requires after { (beyond ≡ 0) ⊎ (engine.LONGEST_INPUT ≤ length input.now) }
+    requires room { LONGEST_OUTPUT ≤ length output.old }
+    requires after { (beyond ≡ 0) ⊎ (LONGEST_INPUT ≤ length input.now) }
     ensures { (0 < result) × (result ≤ length output.new) }
 {
     let answer = engine::station(input, beyond, output);
@@ -98,14 +99,14 @@ fn answered(input: &[u8], beyond: usize, output: &mut [u8]) -> usize
 }
 
 fn main(rt: HostRuntime) {
-    let mut input = [0u8; engine::LONGEST_INPUT];
+    let mut input = [0u8; LONGEST_INPUT];
     let first = fill(rt.stdin(), &mut input);
     let more = rest(rt.stdin(), first);
     if more.failed {
         streams::write_all(rt.stderr(), b"station: the input could not be read\n");
         return;
     }
-    let mut output = [0u8; engine::LONGEST_OUTPUT];
+    let mut output = [0u8; LONGEST_OUTPUT];
     let kept = first.count;
     let n = answered(&input[..kept], more.count, &mut output);
     if !streams::write_all(rt.stdout(), &output[..n]) {
