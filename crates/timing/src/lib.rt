@@ -3,8 +3,8 @@
 // The event sets' calls and the station stand without a loop, for their stack alone.
 #![tactic(auto)]
 
-mod acts;
-mod duties;
+mod act_calls;
+mod duty_calls;
 mod fold;
 mod images;
 mod lists;

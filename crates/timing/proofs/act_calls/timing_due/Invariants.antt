@@ -1,5 +1,5 @@
 -- The loop ends: a turn for each time.
-use Rattle.timing.proofs.acts.timing_due.Given as goal
+use Rattle.timing.proofs.act_calls.timing_due.Given as goal
 
 abbrev pub decreases-loop-times : goal.decreases-loop-times
 decreases-loop-times l = l.times

@@ -1,5 +1,5 @@
 -- The loop ends: a turn for each time.
-use Rattle.timing.proofs.duties.timing_check.Given as goal
+use Rattle.timing.proofs.act_calls.timing_happen.Given as goal
 
 abbrev pub decreases-loop-times : goal.decreases-loop-times
 decreases-loop-times l = l.times
