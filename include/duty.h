@@ -3,7 +3,7 @@
  *
  * Each function is proved, in the crate `duty`, to do what is said here for any bytes and numbers that keep the rules below; the exact promise
  * stands on the function itself in crates/duty/src/lib.rt. What the words mean (enabled, due, the check, a guarded tick ..) stands in
- * docs/RULES.md. `rt staticlib duty` writes target/staticlib/libduty.a, for x86-64; of the C library it uses memcpy and memset alone.
+ * docs/RULES.md. `tests/archive duty` writes target/staticlib/libduty.a, for x86-64; of the C library it uses memcpy and memset alone.
  *
  * What C must keep. Nothing can test it within the call, and the proof assumes it:
  *   - a pointer is not null, is aligned as its type asks, and points to as many places as its length says, also where the length is 0;
