@@ -1,7 +1,7 @@
 -- Demand 3 as a theorem. Statements is the part to read, with Chain, which says the same to a caller, and Runner, to a caller of the runner. Their
 -- words are Promised, History, Deadline and Calls, beside the rules. The others lead up to them, each resting on those above it; Clauses and
--- Worked are computed. Sleep says that minutes slept through are single guarded ticks, Quiet how long a caller may sleep. Beside it stands the theorem of counts, over the same
--- histories and calls and with no check asked: Counts is the part to read, and Runs leads up to it.
+-- Worked are computed. Beside it stands the theorem of counts, over the same histories and calls and with no check asked: Counts is the part to
+-- read, and Runs leads up to it. Sleep says that minutes slept through are single guarded ticks, Quiet how long a caller may sleep.
 pub mod Response
 pub mod Records
 pub mod Facts

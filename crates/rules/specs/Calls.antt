@@ -1,6 +1,6 @@
 -- A caller chains the engine's public calls, each handed the marking that the one before answered. What is said here speaks of what the calls
 -- promise, that an answer is the one defined, and of the answers' fields.
-use Rattle.std.specs.Prelude.{◌≡◌, true, false, cond, List, [], ◌∷◌, ◌++◌, map, ℕ, zero, suc, ◌<◌, ◌≤◌, ◌*◌, ◌-◌, ◌/◌, ◌%◌, eqb, length, get_or, take, drop, replicate}
+use Rattle.std.specs.Prelude.{◌≡◌, true, false, cond, List, [], ◌∷◌, ◌++◌, map, ℕ, zero, suc, ◌<◌, ◌≤◌, ◌-◌, ◌/◌, ◌%◌, eqb, length, get_or, take, drop, replicate}
 use Rattle.rules.specs.declared.Table.{Table}
 use Rattle.rules.specs.declared.Marking.{Marking}
 use Rattle.rules.specs.declared.Step.{Step}
@@ -10,7 +10,6 @@ use Rattle.rules.specs.declared.CheckAnswer.{CheckAnswer}
 use Rattle.rules.specs.declared.CheckAnswer.TheVariants.{Accepts}
 use Rattle.rules.specs.declared.GuardedAnswer.{GuardedAnswer}
 use Rattle.rules.specs.declared.RemedyAnswer.{RemedyAnswer}
-use Rattle.rules.specs.declared.SleptAnswer.{SleptAnswer}
 use Rattle.rules.specs.Numbers.{done}
 use Rattle.rules.specs.EventSet.{has}
 use Rattle.rules.specs.Holds.{most_events, is_controllable, is_causable}
@@ -21,7 +20,7 @@ use Rattle.rules.specs.Closure.{closure_answer}
 use Rattle.rules.specs.Check.{check}
 use Rattle.rules.specs.Guard.{guarded_tick}
 use Rattle.rules.specs.Remedy.{effects, remedy}
-use Rattle.rules.specs.Sleep.{most_ticks, Entry, entry, sleep_answer, sleep_list}
+use Rattle.rules.specs.Sleep.{Entry, entry}
 use Rattle.rules.specs.Trace.{happen_kind, plain_tick_kind, guarded_tick_kind, steps_in, run, run_bytes}
 use Rattle.rules.specs.History.{Act, executes, passes, after, passes_in, then_pass, history_of}
 use Rattle.rules.specs.Deadline.{Duty, Settles, Met}
@@ -29,12 +28,7 @@ use Rattle.rules.specs.Deadline.{Duty, Settles, Met}
 abbrev pub step : ℕ → ℕ → Step
 step kind event = record { kind = kind; event = event }
 
--- so many guarded ticks
-abbrev pub guarded_ticks : ℕ → List Step
-guarded_ticks n = replicate n (step guarded_tick_kind 0)
-
--- a chain of calls from one marking to another, and its steps; minutes slept through are as many guarded ticks; a trace that the runner refuses
--- has none, and so have offered lists
+-- a chain of calls from one marking to another, and its steps; a trace that the runner refuses has none, and so have offered lists
 pub data Calls (t : Table) : Marking → List Step → Marking → Type 0 where
   none : {m : Marking} → Calls t m [] m
   happened : {m end : Marking} {steps : List Step} (e : ℕ) (answer : MarkingAnswer) → answer ≡ happen t m e
@@ -43,9 +37,6 @@ pub data Calls (t : Table) : Marking → List Step → Marking → Type 0 where
       → Calls t answer.marking steps end → Calls t m (step plain_tick_kind 0 ∷ steps) end
   guardedly : {m end : Marking} {steps : List Step} (answer : GuardedAnswer) → answer ≡ guarded_tick t m
       → Calls t answer.marking steps end → Calls t m (step guarded_tick_kind 0 ∷ steps) end
-  slept_through : {m end : Marking} {steps : List Step} (ticks : ℕ) (lent left : List ℕ) (answer : SleptAnswer)
-      → answer ≡ sleep_answer t m ticks (length lent) → left ≡ sleep_list t m ticks lent
-      → Calls t answer.marking steps end → Calls t m (done answer.number (guarded_ticks ticks) [] ++ steps) end
   ran : {m end : Marking} {steps : List Step} (played : List Step) (room : ℕ) (answer : MarkingAnswer) → answer ≡ run t m played room
       → Calls t answer.marking steps end → Calls t m (done answer.number played [] ++ steps) end
   ran_bytes : {m end : Marking} {steps : List Step} (bytes : List ℕ) (room : ℕ) (answer : MarkingAnswer) → answer ≡ run_bytes t m bytes room
@@ -58,24 +49,12 @@ pub data Calls (t : Table) : Marking → List Step → Marking → Type 0 where
 abbrev pub listed : GuardedAnswer → List ℕ
 listed answer = take answer.count answer.caused
 
--- the events that a list's places tell of a tick, in the list's order
-unfoldable pub events_at : ℕ → List ℕ → List ℕ
-events_at tick [] = []
-events_at tick (place ∷ places) = cond (eqb (place / 256) tick) (place % 256 ∷ events_at tick places) (events_at tick places)
-
--- what so many ticks come to, by a list's places: before each tick the events that these tell of it are executed
-unfoldable pub ticks_told : ℕ → List ℕ → List Act
-ticks_told zero places = []
-ticks_told (suc n) places = ticks_told n places ++ then_pass (events_at (suc n) places)
-
--- what a chain comes to, read off its answers and the lent lists: a call that was refused comes to nothing
+-- what a chain comes to, read off its answers: a call that was refused comes to nothing
 unfoldable pub acts_in : {t : Table} {m end : Marking} {steps : List Step} → Calls t m steps end → List Act
 acts_in none = []
 acts_in (happened e answer is rest) = done answer.number (executes e ∷ []) [] ++ acts_in rest
 acts_in (ticked answer is rest) = done answer.number (passes ∷ []) [] ++ acts_in rest
 acts_in (guardedly answer is rest) = done answer.number (then_pass (listed answer)) [] ++ acts_in rest
-acts_in (slept_through ticks lent left answer is fills rest) =
-    done answer.number (ticks_told ticks (take answer.count left)) [] ++ acts_in rest
 acts_in {t} {m} (ran played room answer is rest) = done answer.number (history_of t m played) [] ++ acts_in rest
 acts_in {t} {m} (ran_bytes bytes room answer is rest) = done answer.number (history_of t m (steps_in bytes)) [] ++ acts_in rest
 acts_in (offered preferred fallback answer is rest) = acts_in rest
@@ -109,15 +88,26 @@ pub record Answered (t : Table) (m : Marking) : Type 0 where
   pub checked : (answer : CheckAnswer) → answer ≡ check t m → answer ≡ Accepts
   -- a guarded tick keeps its promise
   pub ticks : (answer : GuardedAnswer) → answer ≡ guarded_tick t m → Ticked t m answer
-  -- a sleep of no more ticks than the limit, lent a place for each event that there can be at each of them, is granted
-  pub sleeps : (ticks : ℕ) (room : ℕ) (answer : SleptAnswer) → answer ≡ sleep_answer t m ticks room → ticks ≤ most_ticks → most_events * ticks ≤ room
-      → answer.number ≡ 0
   -- an uncontrollable event that happens is always done
   pub heard : (e : ℕ) (answer : MarkingAnswer) → answer ≡ happen t m e → e < t.events → is_controllable t e ≡ false → answer.number ≡ 0
   -- an included event that is to be done within d ticks, here or at any point of a chain of calls from here, is executed, given a new deadline
   -- or excluded before the (d + 1)th tick from then passes
   pub kept : {end : Marking} {steps : List Step} (calls : Calls t m steps end) (before rest : List Act) → acts_in calls ≡ before ++ rest
       → (x d : ℕ) → x < t.events → Duty (after t m before) x d → d < passes_in rest → Met t (Settles t x) (after t m before) d rest
+
+-- Beside the chains, what is said of minutes slept through: so many guarded ticks
+abbrev pub guarded_ticks : ℕ → List Step
+guarded_ticks n = replicate n (step guarded_tick_kind 0)
+
+-- the events that a list's places tell of a tick, in the list's order
+unfoldable pub events_at : ℕ → List ℕ → List ℕ
+events_at tick [] = []
+events_at tick (place ∷ places) = cond (eqb (place / 256) tick) (place % 256 ∷ events_at tick places) (events_at tick places)
+
+-- what so many ticks come to, by a list's places: before each tick the events that these tell of it are executed
+unfoldable pub ticks_told : ℕ → List ℕ → List Act
+ticks_told zero places = []
+ticks_told (suc n) places = ticks_told n places ++ then_pass (events_at (suc n) places)
 
 -- the marking after the first n of some guarded ticks, and the events that these list, each with the number of its tick
 abbrev pub come_to : Marking → (ℕ → GuardedAnswer) → ℕ → Marking

@@ -17,8 +17,6 @@ use Rattle.rules.specs.Closure.{closure_answer}
 use Rattle.rules.specs.Check.{check}
 use Rattle.rules.specs.Guard.{guarded_tick}
 use Rattle.rules.specs.Remedy.{remedy}
-use Rattle.rules.specs.Sleep.{sleep_answer}
-use Rattle.rules.specs.Quiet.{quiet_answer}
 use Rattle.rules.specs.Trace.{run, run_answers, run_bytes, run_bytes_answers}
 use Rattle.rules.specs.Images.{images_number, guard_number, fields_number}
 use Rattle.rules.specs.Building.{build_number, relation_told_number, class_told_number}
@@ -51,8 +49,6 @@ pub record EveryCall (P : ℕ → Type 0) : Type 0 where
   pub of_check : (t : Table) (m : Marking) → P (check_number (check t m))
   pub of_guarded_tick : (t : Table) (m : Marking) → P (guarded_tick t m).number
   pub of_remedies : (t : Table) (m : Marking) (preferred fallback : List ℕ) → P (remedy t m preferred fallback).number
-  pub of_sleep : (t : Table) (m : Marking) (ticks room : ℕ) → P (sleep_answer t m ticks room).number
-  pub of_quiet : (t : Table) (m : Marking) → P (quiet_answer t m).number
   -- the runner: its number, and each answer byte of a trace that is granted
   pub of_run : (t : Table) (m : Marking) (steps : List Step) (room : ℕ) → P (run t m steps room).number
   pub of_run_answers : (t : Table) (m : Marking) (steps : List Step) (buffer : List ℕ) → (run t m steps (length buffer)).number ≡ 0

@@ -38,3 +38,4 @@ pub mod Shapes
 -- The worked cases of docs/RULES.md, computed.
 pub mod Shop
 pub mod Cases
+pub mod Nights

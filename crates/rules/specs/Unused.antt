@@ -20,8 +20,6 @@ use Rattle.rules.specs.Closure.{closure_answer}
 use Rattle.rules.specs.Check.{check}
 use Rattle.rules.specs.Guard.{guarded_tick}
 use Rattle.rules.specs.Remedy.{remedy}
-use Rattle.rules.specs.Sleep.{sleep_answer, sleep_list}
-use Rattle.rules.specs.Quiet.{quiet_answer}
 use Rattle.rules.specs.Trace.{run, run_answers, run_bytes, run_bytes_answers}
 
 -- two tables agree on the places in use
@@ -87,9 +85,6 @@ pub record NoneLooks (t u : Table) (m n : Marking) : Type 0 where
   pub of_check : check t m ≡ check u n
   pub of_guarded_tick : SameGuarded (guarded_tick t m) (guarded_tick u n)
   pub of_remedies : (preferred fallback : List ℕ) → remedy t m preferred fallback ≡ remedy u n preferred fallback
-  pub of_sleep : (ticks room : ℕ) → SameSlept (sleep_answer t m ticks room) (sleep_answer u n ticks room)
-  pub of_sleep_list : (ticks : ℕ) (list : List ℕ) → sleep_list t m ticks list ≡ sleep_list u n ticks list
-  pub of_quiet : quiet_answer t m ≡ quiet_answer u n
   -- the runner: its answer, and what the lent buffer holds afterwards
   pub of_run : (steps : List Step) (room : ℕ) → SameAnswer (run t m steps room) (run u n steps room)
   pub of_run_answers : (steps : List Step) (buffer : List ℕ) → run_answers t m steps buffer ≡ run_answers u n steps buffer
@@ -101,6 +96,5 @@ pub record AllKeep (t : Table) (m : Marking) : Type 0 where
   pub of_happen : (e : ℕ) → KeepsUnused m (happen t m e).marking
   pub of_plain_tick : KeepsUnused m (plain_tick t m).marking
   pub of_guarded_tick : KeepsUnused m (guarded_tick t m).marking
-  pub of_sleep : (ticks room : ℕ) → KeepsUnused m (sleep_answer t m ticks room).marking
   pub of_run : (steps : List Step) (room : ℕ) → KeepsUnused m (run t m steps room).marking
   pub of_run_bytes : (bytes : List ℕ) (room : ℕ) → KeepsUnused m (run_bytes t m bytes room).marking

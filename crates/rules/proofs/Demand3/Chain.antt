@@ -12,7 +12,6 @@ use Rattle.rules.specs.declared.MarkingAnswer.{MarkingAnswer}
 use Rattle.rules.specs.declared.CheckAnswer.{CheckAnswer}
 use Rattle.rules.specs.declared.CheckAnswer.TheVariants.{Accepts}
 use Rattle.rules.specs.declared.GuardedAnswer.{GuardedAnswer}
-use Rattle.rules.specs.declared.SleptAnswer.{SleptAnswer}
 use Rattle.rules.specs.Counting.{times}
 use Rattle.rules.specs.Numbers.{done}
 use Rattle.rules.specs.Holds.{most_events, record_of}
@@ -24,13 +23,12 @@ use Rattle.rules.specs.Closure.{closure_answer}
 use Rattle.rules.specs.Check.{check}
 use Rattle.rules.specs.Guard.{caused, guarded_tick}
 use Rattle.rules.specs.Remedy.{effects}
-use Rattle.rules.specs.Sleep.{sleep_number, sleep_answer}
 use Rattle.rules.specs.Trace.{happen_kind, plain_tick_kind, guarded_tick_kind, step_number, step_done, stepped, end_of, run_number, run}
 use Rattle.rules.specs.Trace.{steps_in, bytes_number, run_bytes}
 use Rattle.rules.specs.Promised.{Promise}
 use Rattle.rules.specs.History.{Act, executes, passes, then_pass, acts_of, history_of}
-use Rattle.rules.specs.Calls.{step, Calls, none, happened, ticked, guardedly, slept_through, ran, ran_bytes, offered, listed, acts_in}
-use Rattle.rules.specs.Calls.{guarded_ticks, Caused, Ticked, Answered}
+use Rattle.rules.specs.Calls.{step, Calls, none, happened, ticked, guardedly, ran, ran_bytes, offered, listed, acts_in}
+use Rattle.rules.specs.Calls.{Caused, Ticked, Answered}
 use Rattle.rules.proofs.Laws.Time.{none_due_yet, set_empty}
 use Rattle.rules.proofs.Laws.Taken.{tick_listed}
 use Rattle.rules.proofs.Laws.Trace.{end_append}
@@ -39,7 +37,6 @@ use Rattle.rules.proofs.Demand3.Accepts.{check_parts}
 use Rattle.rules.proofs.Demand3.Leading.{history_append}
 use Rattle.rules.proofs.Demand3.Keeping.{promised}
 use Rattle.rules.proofs.Demand3.Statements.{still_accepts, deadline_kept, always_done}
-use Rattle.rules.proofs.Demand3.Sleep.{end_slept, sleep_acts, sleep_granted}
 
 -- what the answer of a guarded tick lists is what is caused
 module _ (t : Table) (m : Marking) (accepted : check t m ≡ Accepts) (answer : GuardedAnswer) (is : answer ≡ guarded_tick t m) where
@@ -192,7 +189,7 @@ module _ (t : Table) where
   by_answer {m} {A} marking acts first is f = subst (λ (a : A). Follows t m (first a) (marking a) (acts a)) (sym is) f
 
   follows : {m end : Marking} {steps : List Step} (calls : Calls t m steps end) → Accepted m → Follows t m steps end (acts_in calls)
-  unfolding acts_in end_of history_of sleep_answer run run_bytes
+  unfolding acts_in end_of history_of run run_bytes
   follows none accepted = record { leads = refl; comes_to = refl }
   follows (happened {m} {end} {steps} e answer is rest) accepted =
       let s = step happen_kind e in
@@ -211,15 +208,6 @@ module _ (t : Table) where
       joined (s ∷ []) steps accepted
       (by_answer (λ (a : GuardedAnswer). a.marking) (λ a. done a.number (then_pass (listed a)) []) (λ a. s ∷ []) is
       (one s (guarded_step t m accepted) (guarded_acts t m accepted)))
-      (λ a. follows rest a)
-  follows (slept_through {m} {end} {steps} ticks lent left answer is fills rest) accepted =
-      joined (done answer.number (guarded_ticks ticks) []) steps accepted
-      (subst (Follows t m (done answer.number (guarded_ticks ticks) []) answer.marking) (sym (sleep_acts t m ticks lent left answer is fills))
-      (by_answer (λ (a : SleptAnswer). a.marking) (λ a. done a.number (history_of t m (guarded_ticks ticks)) [])
-      (λ a. done a.number (guarded_ticks ticks) []) is
-      (subst (λ (k : Marking). Follows t m (done (sleep_number t m ticks (length lent)) (guarded_ticks ticks) [])
-      (done (sleep_number t m ticks (length lent)) k m) (done (sleep_number t m ticks (length lent)) (history_of t m (guarded_ticks ticks)) []))
-      (end_slept t m accepted ticks) (played m (sleep_number t m ticks (length lent)) (guarded_ticks ticks)))))
       (λ a. follows rest a)
   follows (ran {m} {end} {steps} list room answer is rest) accepted =
       joined (done answer.number list []) steps accepted
@@ -241,7 +229,6 @@ answered t m accepted =
     record {
       checked = λ answer is. is ∙ accepted;
       ticks = ticks t m accepted;
-      sleeps = λ ticks room answer is few fits. ap (λ (a : SleptAnswer). a.number) is ∙ sleep_granted t m accepted ticks room few fits;
       heard = λ e answer is b h. ap (λ (a : MarkingAnswer). a.number) is ∙ always_done t m accepted [] e b h;
       kept = λ {end} {steps} calls before rest split.
           deadline_kept t m accepted steps before rest (sym (follows t calls accepted).comes_to ∙ split);

@@ -5,7 +5,7 @@ use Rattle.std.proofs.Math.Path.{refl, ap, sym, subst}
 use Rattle.std.proofs.Common.{◌∙◌, ⊎_elim, eqb-true}
 use Rattle.std.proofs.Math.Bool.{true, false, cond}
 use mathlib.Core.List.{List, [], ◌∷◌, ◌++◌}
-use Prim.Native.Nat.{ℕ, zero, suc, ◌<◌, ◌≤◌, ◌+◌, min}
+use Prim.Native.Nat.{ℕ, suc, ◌<◌, ◌≤◌, ◌+◌, min}
 use native.Mathlib.Omega.{arith}
 use Rattle.std.proofs.Math.ListN.{length}
 use Rattle.std.proofs.lemmas.Bool.{eqb-false}
@@ -13,9 +13,8 @@ use Rattle.rules.specs.declared.Table.{Table}
 use Rattle.rules.specs.declared.Marking.{Marking}
 use Rattle.rules.specs.declared.Step.{Step}
 use Rattle.rules.specs.declared.MarkingAnswer.{MarkingAnswer}
-use Rattle.rules.specs.declared.SleptAnswer.{SleptAnswer}
 use Rattle.rules.specs.declared.CheckAnswer.TheVariants.{Accepts}
-use Rattle.rules.specs.Counting.{times, repeated}
+use Rattle.rules.specs.Counting.{times}
 use Rattle.rules.specs.Numbers.{done}
 use Rattle.rules.specs.Holds.{count_limit, record_of}
 use Rattle.rules.specs.Judge.{judged}
@@ -23,10 +22,9 @@ use Rattle.rules.specs.Effect.{effect}
 use Rattle.rules.specs.Time.{time}
 use Rattle.rules.specs.Check.{check}
 use Rattle.rules.specs.Guard.{order, goes_ahead, taken_all, caused, guarded, guarded_tick}
-use Rattle.rules.specs.Sleep.{slept, sleep_number, sleep_answer}
 use Rattle.rules.specs.Trace.{end_of, run_number, run, steps_in, bytes_number, run_bytes}
 use Rattle.rules.specs.History.{Act, after, executions_of, then_pass, history_of}
-use Rattle.rules.specs.Calls.{guarded_ticks, Calls, none, happened, ticked, guardedly, slept_through, ran, ran_bytes, offered, acts_in}
+use Rattle.rules.specs.Calls.{Calls, none, happened, ticked, guardedly, ran, ran_bytes, offered, acts_in}
 use Rattle.rules.proofs.Laws.Tests.{decide}
 use Rattle.rules.proofs.Laws.Judge.{good}
 use Rattle.rules.proofs.Laws.Fit.{fits_parts, count_small}
@@ -99,27 +97,12 @@ module _ (t : Table) where
       go true h = ap (end_of t m) h
       go false h = refl
 
-  -- and so do no minutes slept through
-  unslept : (m : Marking) (number ticks : ℕ) → done number (guarded_ticks ticks) [] ≡ [] → done number (slept t m ticks) m ≡ m
-  unfolding slept repeated
-  unslept m number ticks = go (eqb number 0) ticks
-    where
-      go : (b : Bool) (ticks : ℕ) → cond b (guarded_ticks ticks) [] ≡ [] → cond b (slept t m ticks) m ≡ m
-      go true zero h = refl
-      go true (suc ticks) h = absurd (omega (arith, ap (λ (l : List Step). length l) h))
-      go false ticks h = refl
-
   stays : {m end : Marking} {steps : List Step} → Calls t m steps end → steps ≡ [] → end ≡ m
-  unfolding sleep_answer run run_bytes
+  unfolding run run_bytes
   stays none h = refl
   stays (happened e answer is rest) h = absurd (omega (arith, ap (λ (l : List Step). length l) h))
   stays (ticked answer is rest) h = absurd (omega (arith, ap (λ (l : List Step). length l) h))
   stays (guardedly answer is rest) h = absurd (omega (arith, ap (λ (l : List Step). length l) h))
-  stays (slept_through {m} ticks lent left answer is fills rest) h =
-      let p = both_empty (done answer.number (guarded_ticks ticks) []) _ h in
-      stays rest p.1
-      ∙ subst (λ (a : SleptAnswer). done a.number (guarded_ticks ticks) [] ≡ [] → a.marking ≡ m) (sym is)
-      (unslept m (sleep_number t m ticks (length lent)) ticks) p.0
   stays (ran {m} played room answer is rest) h =
       let p = both_empty (done answer.number played []) _ h in
       stays rest p.1

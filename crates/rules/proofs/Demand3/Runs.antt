@@ -1,7 +1,7 @@
 -- In some acts each event that is executed is included at its moment, and so has a place in the marking. So are the acts of any steps, and
 -- those of any chain of calls: what was granted was enabled, and what a guarded tick caused went ahead. No check is asked and nothing is
 -- judged: the marking may have too few records, or another number of events than the table. Assumes nothing.
-use Rattle.std.specs.Prelude.{◌≡◌, Bool, cond, ◌⊎◌, length}
+use Rattle.std.specs.Prelude.{◌≡◌, Bool, cond, ◌⊎◌}
 use Rattle.std.proofs.Math.Path.{refl}
 use Rattle.std.proofs.Common.{◌∙◌, ap, sym, subst, inl, inr, eqb-true}
 use Rattle.std.proofs.Math.Bool.{true, false}
@@ -13,27 +13,22 @@ use Rattle.rules.specs.declared.Marking.{Marking}
 use Rattle.rules.specs.declared.Step.{Step}
 use Rattle.rules.specs.declared.MarkingAnswer.{MarkingAnswer}
 use Rattle.rules.specs.declared.GuardedAnswer.{GuardedAnswer}
-use Rattle.rules.specs.declared.SleptAnswer.{SleptAnswer}
 use Rattle.rules.specs.Numbers.{◌if◌, done}
 use Rattle.rules.specs.Holds.{record_of}
 use Rattle.rules.specs.Effect.{effect}
 use Rattle.rules.specs.Time.{time, plain_tick}
 use Rattle.rules.specs.Happen.{happen}
 use Rattle.rules.specs.Guard.{order, goes_ahead, taken, executed_of, caused, guarded_tick}
-use Rattle.rules.specs.Sleep.{slept, sleep_number, sleep_answer}
 use Rattle.rules.specs.Trace.{last_happen_kind, plain_tick_kind, wrong_step, step_number, stepped, end_of}
 use Rattle.rules.specs.Trace.{run_number, run, steps_in, bytes_number, run_bytes}
 use Rattle.rules.specs.History.{Act, executes, passes, after, then_pass, acts_of, history_of}
-use Rattle.rules.specs.Calls.{guarded_ticks, Calls, none, happened, ticked, guardedly, slept_through, ran, ran_bytes, offered, listed, acts_in}
+use Rattle.rules.specs.Calls.{Calls, none, happened, ticked, guardedly, ran, ran_bytes, offered, listed, acts_in}
 use Rattle.rules.proofs.Laws.Tests.{decide}
 use Rattle.rules.proofs.Laws.Numbers.{both_done, by_number, done_alike}
 use Rattle.rules.proofs.Laws.Happen.{happen_granted, call_granted}
 use Rattle.rules.proofs.Laws.HoldUp.{enabled_included}
 use Rattle.rules.proofs.Laws.Taken.{ahead_included, taken_in, taken_out, tick_listed}
-use Rattle.rules.proofs.Laws.Sleep.{granted}
-use Rattle.rules.proofs.Demand3.Accepts.{check_accepts}
 use Rattle.rules.proofs.Demand3.Leading.{after_join, after_guarded, after_acts, after_history}
-use Rattle.rules.proofs.Demand3.Sleep.{end_slept, sleep_acts}
 
 -- each event that is executed is included at its moment
 pub data Runs (t : Table) : Marking → List Act → Type 0 where
@@ -138,31 +133,14 @@ module _ (t : Table) where
       (λ granted. ap then_pass (sym (tick_listed t m ∙ rw granted))))
       (guarded_runs m)
 
-  -- minutes slept through come to as many guarded ticks, none of which is refused
-  sleep_runs : (m : Marking) (ticks room : ℕ)
-      → RunsTo t m (done (sleep_number t m ticks room) (history_of t m (guarded_ticks ticks)) []) (done (sleep_number t m ticks room) (slept t m ticks) m)
-  sleep_runs m ticks room =
-      to_done (sleep_number t m ticks room) (λ z.
-      let told = granted t m ticks room z in
-      record {
-        runs = history_runs m (guarded_ticks ticks);
-        leads = after_history t m (guarded_ticks ticks) ∙ end_slept t m (check_accepts t m told.judged_done told.accepts) ticks;
-      })
-
   -- in what a chain of calls comes to, each event that is executed is included at its moment; and it leads where the chain ends
   pub calls_run : {m end : Marking} {steps : List Step} (calls : Calls t m steps end) → RunsTo t m (acts_in calls) end
-  unfolding acts_in after sleep_answer run run_bytes
+  unfolding acts_in after run run_bytes
   calls_run none = record { runs = ends; leads = refl }
   calls_run (happened {m} e answer is rest) = to_join (subst (Told m (executes e ∷ [])) (sym is) (happened_runs m e)) (calls_run rest)
   calls_run (ticked {m} answer is rest) = to_join (subst (Told m (passes ∷ [])) (sym is) (tick_runs m)) (calls_run rest)
   calls_run (guardedly {m} answer is rest) =
       to_join (subst (λ (a : GuardedAnswer). RunsTo t m (done a.number (then_pass (listed a)) []) a.marking) (sym is) (listed_runs m)) (calls_run rest)
-  calls_run (slept_through {m} ticks lent left answer is fills rest) =
-      to_join
-      (subst (λ (acts : List Act). RunsTo t m acts answer.marking) (sym (sleep_acts t m ticks lent left answer is fills))
-      (subst (λ (a : SleptAnswer). RunsTo t m (done a.number (history_of t m (guarded_ticks ticks)) []) a.marking) (sym is)
-      (sleep_runs m ticks (length lent))))
-      (calls_run rest)
   calls_run (ran {m} played room answer is rest) =
       to_join (subst (Told m (history_of t m played)) (sym is) (played_runs m (run_number t m played room) played)) (calls_run rest)
   calls_run (ran_bytes {m} bytes room answer is rest) =

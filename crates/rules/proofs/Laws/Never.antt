@@ -179,9 +179,14 @@ module _ (P : ℕ → Type 0) (each : (number : ℕ) → given number ≡ true �
   unfolding check
   check_given t m = search (cond_given check_number, judged_given, verdict_given) depth 10
 
-  sleep_given : (t : Table) (m : Marking) (ticks room : ℕ) → P (sleep_number t m ticks room)
-  unfolding sleep_number sleep_check
+  -- and of the calls that came after these: sleeping and quiet
+  pub sleep_given : (t : Table) (m : Marking) (ticks room : ℕ) → P (sleep_answer t m ticks room).number
+  unfolding sleep_answer sleep_number sleep_check
   sleep_given t m ticks room = search (if_given, else_given, cond_given check_number, judged_given, verdict_given) depth 10
+
+  pub quiet_given : (t : Table) (m : Marking) → P (quiet_answer t m).number
+  unfolding quiet_answer
+  quiet_given = judged_given
 
   -- answer bytes stand before what the buffer held
   written_given : (t : Table) (m : Marking) (steps : List Step) (behind : List ℕ) (i : ℕ) → i < length steps → P (get_or (answers_of t m steps ++ behind) i 0)
@@ -227,7 +232,7 @@ module _ (P : ℕ → Type 0) (each : (number : ℕ) → given number ≡ true �
         go false (suc i) b = each 0 refl
 
   pub every_call : EveryCall P
-  unfolding read_table read_marking write_table_number write_number carry_number fresh enabled_answer due_answer happen plain_tick chain_number chain_answer closure_answer guarded_tick remedy sleep_answer quiet_answer run run_answers run_bytes run_bytes_answers heard_number
+  unfolding read_table read_marking write_table_number write_number carry_number fresh enabled_answer due_answer happen plain_tick chain_number chain_answer closure_answer guarded_tick remedy run run_answers run_bytes run_bytes_answers heard_number
   every_call = record {
     of_read_table = table_image_given;
     of_read_marking = marking_image_given;
@@ -248,8 +253,6 @@ module _ (P : ℕ → Type 0) (each : (number : ℕ) → given number ≡ true �
     of_check = check_given;
     of_guarded_tick = check_given;
     of_remedies = λ t m preferred fallback. search (else_given, judged_given, remedy_given);
-    of_sleep = sleep_given;
-    of_quiet = judged_given;
     of_run = λ t m steps room. search (else_given, judged_given, trace_given);
     of_run_answers = λ t m steps buffer granted i b. rw granted (written_given t m steps _ i b);
     of_run_bytes = λ t m bytes room. search (if_given, else_given, judged_given, trace_given);
@@ -267,6 +270,13 @@ module _ (P : ℕ → Type 0) (each : (number : ℕ) → given number ≡ true �
 
 pub never : (n : ℕ) → given n ≡ false → Never n
 never n none = every_call (λ number. number ≡ n → ⊥) (λ number g e. clash g (rw e none))
+
+-- nor do sleeping and quiet
+pub sleep_never : (n : ℕ) → given n ≡ false → (t : Table) (m : Marking) (ticks room : ℕ) → (sleep_answer t m ticks room).number ≡ n → ⊥
+sleep_never n none = sleep_given (λ number. number ≡ n → ⊥) (λ number g e. clash g (rw e none))
+
+pub quiet_never : (n : ℕ) → given n ≡ false → (t : Table) (m : Marking) → (quiet_answer t m).number ≡ n → ⊥
+quiet_never n none = quiet_given (λ number. number ≡ n → ⊥) (λ number g e. clash g (rw e none))
 
 -- no call gives a number above 15, and none gives 9
 pub never_above : (n : ℕ) → 15 < n → Never n

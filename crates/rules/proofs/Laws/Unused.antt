@@ -155,7 +155,7 @@ module _ {t u : Table} {m n : Marking} (tables : SameTable t u) (markings : Same
   unfolding due_answer
   due_same = rw (both_judged tables markings, due_set_alike markings)
 
-  quiet_same : quiet_answer t m ≡ quiet_answer u n
+  pub quiet_same : quiet_answer t m ≡ quiet_answer u n
   unfolding quiet_answer
   quiet_same = rw (both_judged tables markings, quiet_alike markings most_ticks)
 
@@ -269,7 +269,7 @@ module _ {t u : Table} {m n : Marking} (tables : SameTable t u) (markings : Same
   unfolding sleep_number
   sleep_granted ticks room z = sleep_agrees ticks (both_done (check_number (sleep_check t m ticks)) _ z).0
 
-  sleep_same : (ticks room : ℕ) → SameSlept (sleep_answer t m ticks room) (sleep_answer u n ticks room)
+  pub sleep_same : (ticks room : ℕ) → SameSlept (sleep_answer t m ticks room) (sleep_answer u n ticks room)
   unfolding sleep_answer
   sleep_same ticks room = rw (← sleep_check_same ticks, ← sleep_number_same ticks room) record {
     same_number = refl;
@@ -280,7 +280,7 @@ module _ {t u : Table} {m n : Marking} (tables : SameTable t u) (markings : Same
     same_marking = done_agrees (sleep_number t m ticks room) markings (λ z. (after_sleep (sleep_granted ticks room z) ticks).markings);
   }
 
-  sleep_list_same : (ticks : ℕ) (list : List ℕ) → sleep_list t m ticks list ≡ sleep_list u n ticks list
+  pub sleep_list_same : (ticks : ℕ) (list : List ℕ) → sleep_list t m ticks list ≡ sleep_list u n ticks list
   unfolding sleep_list
   sleep_list_same ticks list =
       rw (← sleep_number_same ticks (length list))
@@ -331,9 +331,6 @@ none_looks tables markings = record {
   of_check = check_same tables markings;
   of_guarded_tick = guarded_tick_same tables markings;
   of_remedies = remedies_same tables markings;
-  of_sleep = sleep_same tables markings;
-  of_sleep_list = sleep_list_same tables markings;
-  of_quiet = quiet_same tables markings;
   of_run = run_same tables markings;
   of_run_answers = run_answers_same tables markings;
   of_run_bytes = run_bytes_same tables markings;

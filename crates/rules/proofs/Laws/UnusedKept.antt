@@ -95,12 +95,16 @@ given_back number {m = m} kept = chosen (eqb number 0) kept (unchanged m)
 
 -- Other calls keep those places
 pub kept_places : (t : Table) (m : Marking) → AllKeep t m
-unfolding happen plain_tick guarded_tick sleep_answer run run_bytes
+unfolding happen plain_tick guarded_tick run run_bytes
 kept_places t m = record {
   of_happen = λ e. given_back (happen t m e).number (effect_keeps t m e);
   of_plain_tick = given_back (plain_tick t m).number (time_keeps m);
   of_guarded_tick = given_back (guarded_tick t m).number (guarded_keeps t m);
-  of_sleep = λ ticks room. given_back (sleep_answer t m ticks room).number (slept_keeps t m ticks);
   of_run = λ steps room. given_back (run t m steps room).number (trace_keeps t m steps);
   of_run_bytes = λ bytes room. given_back (run_bytes t m bytes room).number (trace_keeps t m (steps_in bytes));
 }
+
+-- and so does sleeping
+pub sleep_keeps_places : (t : Table) (m : Marking) (ticks room : ℕ) → KeepsUnused m (sleep_answer t m ticks room).marking
+unfolding sleep_answer
+sleep_keeps_places t m ticks room = given_back (sleep_answer t m ticks room).number (slept_keeps t m ticks)
