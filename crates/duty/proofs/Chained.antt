@@ -10,17 +10,16 @@ use denote.Triple.Clauses.{AtExit}
 use borrow.Fn.Kinds.{ParamKind, ResultKind, Out, Dens, res_t, ended_of}
 use Rattle.rules.specs.declared.Step.{Step}
 use Rattle.rules.specs.Numbers.{done}
-use Rattle.rules.specs.Holds.{most_events, is_controllable}
+use Rattle.rules.specs.Holds.{is_controllable}
 use Rattle.rules.specs.Image.{marking_image}
 use Rattle.rules.specs.Time.{time}
 use Rattle.rules.specs.Remedy.{effects}
 use Rattle.rules.specs.Trace.{happen_kind, plain_tick_kind, guarded_tick_kind, end_of, steps_in}
-use Rattle.rules.specs.Sleep.{most_ticks}
 use Rattle.rules.specs.Images.{table_of, marking_of}
 use Rattle.rules.specs.Promised.{Promise}
 use Rattle.rules.specs.History.{Act, executes, passes, after, passes_in, then_pass, history_of}
 use Rattle.rules.specs.Deadline.{Duty, Settles, Met}
-use Rattle.rules.specs.Calls.{step, guarded_ticks, ticks_told, Caused}
+use Rattle.rules.specs.Calls.{step, Caused}
 use Rattle.duty.proofs.duty_happen.Kinds as happen-kinds
 use Rattle.duty.proofs.duty_happen.Reads as happen
 use Rattle.duty.proofs.duty_plain_tick.Kinds as plain-tick-kinds
@@ -92,8 +91,8 @@ listed call = take (count call) call.left.1.1.0.now
 abbrev pub slept_places : Sleep → List ℕ
 slept_places call = take call.left.1.1.1.1.0.now call.left.1.1.1.0.now
 
--- a chain of calls, each handed the same table image and the marking's bytes as the call before left them, and its steps; minutes slept through
--- are as many guarded ticks; a guarded tick, a sleep or a trace that is refused has none, and so have offered lists
+-- a chain of calls, each handed the same table image and the marking's bytes as the call before left them, and its steps; a guarded tick or a
+-- trace that is refused has none, and so have offered lists
 pub data Chained (table : List ℕ) : List ℕ → List Step → List ℕ → Type 0 where
   none : {marking : List ℕ} → Chained table marking [] marking
   happened : {marking end : List ℕ} {steps : List Step} (call : Happen) → call.handed.0.now ≡ table → call.handed.1.0.now ≡ marking
@@ -102,9 +101,6 @@ pub data Chained (table : List ℕ) : List ℕ → List Step → List ℕ → Ty
       → Chained table call.left.1.0.now steps end → Chained table marking (step plain_tick_kind 0 ∷ steps) end
   guardedly : {marking end : List ℕ} {steps : List Step} (call : GuardedTick) → call.handed.0.now ≡ table → call.handed.1.0.now ≡ marking
       → Chained table call.left.1.0.now steps end → Chained table marking (done call.answer (step guarded_tick_kind 0 ∷ []) [] ++ steps) end
-  slept_through : {marking end : List ℕ} {steps : List Step} (call : Sleep) → call.handed.0.now ≡ table → call.handed.1.0.now ≡ marking
-      → Chained table call.left.1.0.now steps end
-      → Chained table marking (done call.answer (guarded_ticks call.handed.1.1.0) [] ++ steps) end
   ran : {marking end : List ℕ} {steps : List Step} (call : Run) → call.handed.0.now ≡ table → call.handed.1.0.now ≡ marking
       → Chained table call.left.1.0.now steps end
       → Chained table marking (done call.answer (steps_in call.handed.1.1.0.now) [] ++ steps) end
@@ -118,7 +114,6 @@ acts_in none = []
 acts_in (happened call p q rest) = done call.answer (executes call.handed.1.1.0 ∷ []) [] ++ acts_in rest
 acts_in (ticked call p q rest) = done call.answer (passes ∷ []) [] ++ acts_in rest
 acts_in (guardedly call p q rest) = done call.answer (then_pass (listed call)) [] ++ acts_in rest
-acts_in (slept_through call p q rest) = done call.answer (ticks_told call.handed.1.1.0 (slept_places call)) [] ++ acts_in rest
 acts_in {table} {marking} (ran call p q rest) =
     done call.answer (history_of (table_of table) (marking_of table marking) (steps_in call.handed.1.1.0.now)) [] ++ acts_in rest
 acts_in (offered call p q rest) = acts_in rest
@@ -141,9 +136,6 @@ pub record Answered (table marking : List ℕ) : Type 0 where
   -- a guarded tick that is lent a byte for each event keeps its promise
   pub ticks : (call : GuardedTick) → call.handed.0.now ≡ table → call.handed.1.0.now ≡ marking
       → (table_of table).events ≤ length call.handed.1.1.0.now → Ticked table marking call
-  -- a sleep of no more ticks than the limit, lent a place for each event that there can be at each of them, is granted
-  pub sleeps : (call : Sleep) → call.handed.0.now ≡ table → call.handed.1.0.now ≡ marking → call.handed.1.1.0 ≤ most_ticks
-      → most_events * call.handed.1.1.0 ≤ length call.handed.1.1.1.0.now → call.answer ≡ 0
   -- each guarded tick within a trace that is played has the answer byte 0, and kept its promise in the marking that the steps before it led to
   pub played : (call : Run) → call.handed.0.now ≡ table → call.handed.1.0.now ≡ marking → call.answer ≡ 0 → let bytes = call.handed.1.1.0.now in
       (i : ℕ) → 2 * i + 1 < length bytes → get_or bytes (2 * i) 0 ≡ guarded_tick_kind → get_or bytes (2 * i + 1) 0 ≡ 0

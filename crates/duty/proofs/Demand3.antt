@@ -29,14 +29,14 @@ use Rattle.rules.specs.Sleep.{slept, sleep_number, sleep_answer, sleep_list}
 use Rattle.rules.specs.Trace.{guarded_tick_kind, end_of, steps_in, bytes_number, run_bytes, run_bytes_answers}
 use Rattle.rules.specs.Images.{table_of, marking_of, images_number, on, put_back, guard_number}
 use Rattle.rules.specs.History.{Act, executes, passes, then_pass, history_of}
-use Rattle.rules.specs.Calls.{step, guarded_ticks, ticks_told, Calls, Caused}
-use Rattle.rules.specs.Calls.{none as engine-none, happened as engine-happened, ticked as engine-ticked, slept_through as engine-slept}
+use Rattle.rules.specs.Calls.{step, Calls, Caused}
+use Rattle.rules.specs.Calls.{none as engine-none, happened as engine-happened, ticked as engine-ticked}
 use Rattle.rules.specs.Calls.{guardedly as engine-guardedly, ran_bytes as engine-ran, offered as engine-offered, acts_in as engineActs, listed as engineListed}
 use Rattle.rules.specs.Calls.{Answered as EngineAnswered}
 use Rattle.rules.proofs.Laws.Counting.{repeated_keeps}
 use Rattle.rules.proofs.Laws.Check.{verdict_done}
 use Rattle.rules.proofs.Laws.InNumbers.{check_in_numbers_lem}
-use Rattle.rules.proofs.Laws.Numbers.{both_done, else_done, done_alike}
+use Rattle.rules.proofs.Laws.Numbers.{both_done, else_done}
 use Rattle.rules.proofs.Laws.Taken.{caused_length, guarded_is}
 use Rattle.rules.proofs.Laws.Trace.{guarded_judged, end_judged}
 use Rattle.rules.proofs.Demand3.Facts.{effect_judged, time_judged}
@@ -48,7 +48,7 @@ use Rattle.duty.specs.Laws.Images.{read_judged}
 use Rattle.duty.specs.Laws.ReadBack.{AsRead, effect_as_read, time_as_read, effects_as_read, after_as_read, as_read, put_back_lem}
 use Rattle.duty.specs.Laws.Guarded.{caused_is}
 use Rattle.duty.proofs.Chained.{Happen, PlainTick, Check, GuardedTick, Sleep, Run, count, listed, slept_places}
-use Rattle.duty.proofs.Chained.{Chained, none, happened, ticked, guardedly, slept_through, ran, offered, acts_in, Answered}
+use Rattle.duty.proofs.Chained.{Chained, none, happened, ticked, guardedly, ran, offered, acts_in, Answered}
 
 -- a check without a number accepts
 pub accepts : (t : Table) (m : Marking) → judged t m ≡ 0 → check_number (check t m) ≡ 0 → check t m ≡ Accepts
@@ -296,25 +296,6 @@ follows {table} (ticked {marking} {end} {steps} call p q rest) read =
     )
 follows {table} (guardedly {marking} {end} {steps} call p q rest) read =
     guarded_on table marking end steps (acts_in rest) call p q read (λ r. follows rest r)
-follows {table} (slept_through {marking} {end} {steps} call p q rest) read =
-    let t = table_of table in
-    let m = marking_of table marking in
-    let ticks = call.handed.1.1.0 in
-    let lent = call.handed.1.1.1.0.now in
-    let rule = sleep_answer t m ticks (length lent) in
-    let came = ticks_told ticks (take rule.count (sleep_list t m ticks lent)) in
-    let s = sleep_said call p q in
-    let n = after_sleep table marking read ticks (length lent) call.answer call.left.1.0.now s.0 s.1 in
-    let then = follows rest n.reads in
-    let a = from table marking read n then.1 in (
-      then.0,
-      subst (λ (l : List Act). Along t m (done call.answer (guarded_ticks ticks) [] ++ steps) (marking_of table end) (l ++ acts_in rest))
-          (done_alike call.answer came (ticks_told ticks (slept_places call)) [] (λ h. ap (ticks_told ticks) (sym (places_said call p q h))))
-          (as_played steps (acts_in rest) (guarded_ticks ticks) came n.told (record {
-            calls = engine-slept ticks lent (sleep_list t m ticks lent) rule refl refl a.calls;
-            same = ap (λ (l : List Act). done rule.number came [] ++ l) a.same;
-          })),
-    )
 follows {table} (ran {marking} {end} {steps} call p q rest) read =
     let t = table_of table in
     let m = marking_of table marking in
@@ -342,7 +323,7 @@ follows {table} (offered {marking} {end} {steps} call p q rest) read =
     )
 
 -- what a C caller is answered where the images are read and the engine answers as it should
-answered : (table marking : List ℕ) → images_number table marking ≡ 0 → EngineAnswered (table_of table) (marking_of table marking) → Answered table marking
+pub answered : (table marking : List ℕ) → images_number table marking ≡ 0 → EngineAnswered (table_of table) (marking_of table marking) → Answered table marking
 unfolding guard_number
 answered table marking read answers =
     let t = table_of table in
@@ -364,8 +345,6 @@ answered table marking read answers =
             passed = put_marking table marking call.answer _ _ _ _ _ _ s.0 s.1 s.2 s.3 h
                 ∙ ap marking_image (tick.passed ∙ ap (λ (l : List ℕ). time (effects t m l)) (sym same));
           };
-      sleeps = λ call p q few fits.
-          (sleep_said call p q).0 ∙ else_done _ read ∙ answers.sleeps call.handed.1.1.0 (length call.handed.1.1.1.0.now) _ refl few fits;
       played = λ call p q h i b kind event.
           let s = run_said call p q in
           let bytes = call.handed.1.1.0.now in

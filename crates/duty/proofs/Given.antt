@@ -22,8 +22,8 @@ use Rattle.rules.specs.Given.{given, EveryCall}
 use Rattle.rules.proofs.Laws.InNumbers.{margin_in_numbers_lem, hold_up_in_numbers_lem, check_in_numbers_lem}
 use Rattle.rules.proofs.Laws.Numbers.{both_done}
 use Rattle.rules.proofs.Laws.Tests.{clash}
-use Rattle.rules.proofs.Laws.Never.{if_given, else_given, every_call}
-use Rattle.duty.proofs.Chained.{Made, Happen, PlainTick, Check, GuardedTick, Sleep, Run, Remedies, Record}
+use Rattle.rules.proofs.Laws.Never.{if_given, else_given, every_call, sleep_given as engine-sleep, quiet_given as engine-quiet}
+use Rattle.duty.proofs.Chained.{Made, Happen, PlainTick, Check, GuardedTick, Sleep, Quiet, Run, Remedies, Record}
 use Rattle.duty.proofs.duty_judge.Kinds as judge-kinds
 use Rattle.duty.proofs.duty_judge.Reads as judge
 use Rattle.duty.proofs.duty_fresh.Kinds as fresh-kinds
@@ -40,8 +40,6 @@ use Rattle.duty.proofs.duty_firm.Kinds as firm-kinds
 use Rattle.duty.proofs.duty_firm.Reads as firm
 use Rattle.duty.proofs.duty_enabled.Kinds as enabled-kinds
 use Rattle.duty.proofs.duty_enabled.Reads as enabled
-use Rattle.duty.proofs.duty_quiet.Kinds as quiet-kinds
-use Rattle.duty.proofs.duty_quiet.Reads as quiet
 use Rattle.duty.proofs.duty_due.Kinds as due-kinds
 use Rattle.duty.proofs.duty_due.Reads as due
 use Rattle.duty.proofs.duty_margin.Kinds as margin-kinds
@@ -73,8 +71,6 @@ pub record EveryExported (P : ℕ → Type 0) : Type 0 where
   pub of_closure : (call : Made 4 closure-kinds.ps closure-kinds.r closure.Learnt) → P call.answer
   pub of_check : (call : Check) → P call.answer
   pub of_guarded_tick : (call : GuardedTick) → P call.answer
-  pub of_sleep : (call : Sleep) → P call.answer
-  pub of_quiet : (call : Made 3 quiet-kinds.ps quiet-kinds.r quiet.Learnt) → P call.answer
   pub of_remedies : (call : Remedies) → P call.answer
   pub of_run : (call : Run) → P call.answer
   -- each answer byte of a trace that is played
@@ -135,15 +131,27 @@ module _ (P : ℕ → Type 0) (each : (number : ℕ) → given number ≡ true �
     of_check = λ call. behind _ _ _ (check_told_lem _ _) call.promised.0;
     of_guarded_tick = λ call.
         subst P (sym call.promised.0) (else_given P each _ _ (every.of_guard _ _ _) (every.of_guarded_tick _ _));
-    of_sleep = λ call. behind _ _ _ (every.of_sleep _ _ _ _) call.promised.0;
-    of_quiet = λ call. behind _ _ _ (every.of_quiet _ _) call.promised.0;
     of_remedies = λ call. behind _ _ _ (every.of_remedies _ _ _ _) call.promised.0;
     of_run = λ call. behind _ _ _ (every.of_run_bytes _ _ _ _) call.promised.0;
     of_run_answers = played;
   }
 
+  -- and of the calls that came after these: duty_sleep and duty_quiet
+  pub sleep_given : (call : Sleep) → P call.answer
+  sleep_given call = behind _ _ _ (engine-sleep P each _ _ _ _) call.promised.0
+
+  pub quiet_given : (call : Quiet) → P call.answer
+  quiet_given call = behind _ _ _ (engine-quiet P each _ _) call.promised.0
+
 pub never : (n : ℕ) → given n ≡ false → EveryExported (λ number. number ≡ n → ⊥)
 never n none = every_exported (λ number. number ≡ n → ⊥) (λ number g e. clash g (rw e none))
+
+-- nor do duty_sleep and duty_quiet
+pub sleep_never : (n : ℕ) → given n ≡ false → (call : Sleep) → call.answer ≡ n → ⊥
+sleep_never n none = sleep_given (λ number. number ≡ n → ⊥) (λ number g e. clash g (rw e none))
+
+pub quiet_never : (n : ℕ) → given n ≡ false → (call : Quiet) → call.answer ≡ n → ⊥
+quiet_never n none = quiet_given (λ number. number ≡ n → ⊥) (λ number g e. clash g (rw e none))
 
 pub never_nine : EveryExported (λ number. number ≡ 9 → ⊥)
 never_nine = never 9 refl

@@ -1,6 +1,6 @@
 -- Minutes slept through, for a C caller: they are single guarded ticks on the same bytes, one call after another is one call, and up to what
 -- duty_quiet tells they cause nothing. It speaks of the contracts themselves, and of what the calls leave in the buffers. Assumes nothing.
-use mathlib.Core.Path.{◌≡◌, refl, ◌∙◌, ap, ap₂, sym}
+use mathlib.Core.Path.{◌≡◌, refl, ◌∙◌, ap, ap₂, sym, subst}
 use mathlib.Core.List.{List, [], ◌++◌, map, append-nil}
 use Prim.Native.Nat.{ℕ, zero, suc, ◌+◌, ◌*◌, ◌<◌, ◌≤◌}
 use native.Mathlib.Omega.{arith}
@@ -12,27 +12,33 @@ use Rattle.rules.specs.declared.GuardedAnswer.{GuardedAnswer}
 use Rattle.rules.specs.declared.SleptAnswer.{SleptAnswer}
 use Rattle.rules.specs.declared.CheckAnswer.TheVariants.{Accepts}
 use Rattle.rules.specs.Numbers.{◌else◌, done, check_number}
+use Rattle.rules.specs.Holds.{most_events}
 use Rattle.rules.specs.Judge.{judged}
 use Rattle.rules.specs.Image.{record_bytes, read_table, read_marking, marking_image}
 use Rattle.rules.specs.Time.{due_answer}
 use Rattle.rules.specs.Check.{check}
 use Rattle.rules.specs.Guard.{guarded, guarded_tick}
-use Rattle.rules.specs.Sleep.{most_ticks, Entry, entry, sleep_number, sleep_answer, places_of, sleep_list}
+use Rattle.rules.specs.Sleep.{most_ticks, slept, Entry, entry, sleep_number, sleep_answer, places_of, sleep_list}
 use Rattle.rules.specs.Quiet.{quiet_answer}
+use Rattle.rules.specs.Trace.{end_of}
+use Rattle.rules.specs.History.{history_of}
 use Rattle.rules.specs.Images.{table_of, marking_of, images_number, on, put_back, guard_number}
+use Rattle.rules.specs.Calls.{none, guarded_ticks, ticks_told, Answered as EngineAnswered}
 use Rattle.rules.specs.Calls.{listed as engineListed, come_to as engineComeTo, listed_in as engineListedIn, Singly as EngineSingly}
 use Rattle.rules.proofs.Laws.Numbers.{both_done, else_done, else_refused, by_number}
 use Rattle.rules.proofs.Laws.Trace.{guarded_judged}
 use Rattle.rules.proofs.Laws.Sleep.{early_grants, checked}
 use Rattle.rules.proofs.Demand3.Sleep.{sleep_singly as engine-singly, sleep_adds as engine-adds, moved_places}
+use Rattle.rules.proofs.Demand3.Sleep.{sleep_granted as engine-granted, sleep_accepts, end_slept, marked, told_history}
+use Rattle.rules.proofs.Demand3.Chain.{chain}
 use Rattle.rules.proofs.Demand3.Quiet.{quiet_sleeps as engine-quiet-sleeps, quiet_ends as engine-quiet-ends}
 use Rattle.image.specs.Theorems.{read_is_written}
 use Rattle.duty.specs.Laws.Images.{read_judged, marking_long}
 use Rattle.duty.specs.Laws.Kept.{fills, filled}
 use Rattle.duty.specs.Laws.ReadBack.{put_back_lem}
-use Rattle.duty.proofs.Chained.{Check, GuardedTick, Sleep, Quiet, Due, listed, slept_places}
+use Rattle.duty.proofs.Chained.{Check, GuardedTick, Sleep, Quiet, Due, Answered, listed, slept_places}
 use Rattle.duty.proofs.Demand3.{first_read, guarded_as_read, guarded_said, first_listed, put_marking}
-use Rattle.duty.proofs.Demand3.{accepts, check_said, sleep_said, places_said, after_sleep}
+use Rattle.duty.proofs.Demand3.{accepts, answered, check_said, sleep_said, places_said, after_sleep}
 
 -- the marking's bytes after the first n of some guarded ticks, and the events that these list, each with the number of its tick
 abbrev pub come_to : List ℕ → (ℕ → GuardedTick) → ℕ → List ℕ
@@ -265,6 +271,44 @@ sleep_adds_rejected checks p q h first second whole p' q' p'' q'' p''' q''' sum 
       one,
       sleep_rejected checks p q h second p'' (q'' ∙ one.1) (omega (arith, few)),
       sleep_rejected checks p q h whole p''' q''' (omega (arith, few, sum)),
+    )
+
+-- Where duty_check answers 0, a sleep of no more ticks than the limit, lent a place for each event that there can be at each of them, is granted.
+pub sleep_granted : {table marking : List ℕ} (checks : Check) → checks.handed.0.now ≡ table → checks.handed.1.0.now ≡ marking → checks.answer ≡ 0
+    → (call : Sleep) → call.handed.0.now ≡ table → call.handed.1.0.now ≡ marking → call.handed.1.1.0 ≤ most_ticks
+    → most_events * call.handed.1.1.0 ≤ length call.handed.1.1.1.0.now → call.answer ≡ 0
+sleep_granted {table} {marking} checks p q h call p' q' few fits =
+    let t = table_of table in
+    let m = marking_of table marking in
+    let d = both_done (images_number table marking) (check_number (check t m)) (sym (check_said checks p q) ∙ h) in
+    (sleep_said call p' q').0 ∙ else_done _ d.0
+    ∙ engine-granted t m (accepts t m (read_judged table marking d.0) d.1) call.handed.1.1.0 (length call.handed.1.1.1.0.now) few fits
+
+-- Where duty_check answers 0 and a sleep is granted, the bytes that it leaves are read, as the marking that so many guarded ticks end with; what the
+-- list tells is their history; and from there, and along any chain of calls from there, the caller is answered as in demand 3.
+pub sleep_answered : {table marking : List ℕ} (checks : Check) → checks.handed.0.now ≡ table → checks.handed.1.0.now ≡ marking → checks.answer ≡ 0
+    → (call : Sleep) → call.handed.0.now ≡ table → call.handed.1.0.now ≡ marking → call.answer ≡ 0
+    → let steps = guarded_ticks call.handed.1.1.0 in
+    (images_number table call.left.1.0.now ≡ 0)
+    × (marking_of table call.left.1.0.now ≡ end_of (table_of table) (marking_of table marking) steps)
+    × (ticks_told call.handed.1.1.0 (slept_places call) ≡ history_of (table_of table) (marking_of table marking) steps)
+    × Answered table call.left.1.0.now
+sleep_answered {table} {marking} checks p q h call p' q' h' =
+    let t = table_of table in
+    let m = marking_of table marking in
+    let ticks = call.handed.1.1.0 in
+    let lent = call.handed.1.1.1.0.now in
+    let d = both_done (images_number table marking) (check_number (check t m)) (sym (check_said checks p q) ∙ h) in
+    let accepted = accepts t m (read_judged table marking d.0) d.1 in
+    let granted = (both call p' q' h').1 in
+    let back = slept_back call p' q' h' in
+    let there = back.1 ∙ marked t m ticks lent (sleep_answer t m ticks (length lent)) refl granted in
+    let k = slept t m ticks in
+    let from = chain t k k [] (check t k) refl (sleep_accepts t m accepted ticks) none in (
+      back.0,
+      there ∙ sym (end_slept t m accepted ticks),
+      ap (ticks_told ticks) (places_said call p' q' h') ∙ told_history t m ticks lent (sleep_answer t m ticks (length lent)) refl granted,
+      answered table call.left.1.0.now back.0 (subst (EngineAnswered t) (sym there) from.2),
     )
 
 -- what duty_quiet and duty_due tell: how many ticks, and the set

@@ -212,7 +212,7 @@ module _ (t : Table) (m : Marking) (ticks : ℕ) (list : List ℕ) (answer : Sle
     accepted_so : check t m ≡ Accepts
     accepted_so = check_accepts t m told.judged_done told.accepts
 
-    marked : answer.marking ≡ slept t m ticks
+    pub marked : answer.marking ≡ slept t m ticks
     unfolding sleep_answer
     marked = ap (λ (a : SleptAnswer). a.marking) is ∙ rw number_done
 
