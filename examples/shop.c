@@ -10,6 +10,8 @@
 #include <inttypes.h>
 #include <stdio.h>
 
+static const char *const names[EVENTS] = {"leak", "flush", "isolate", "standby", "drain"};
+
 enum { UNBOUNDED = 0, BOUNDED = 1, REMEDY = DUTY_CONTROLLABLE | DUTY_CAUSABLE };
 
 /* flush, isolate and drain are controllable and causable; a leak and a standby are neither */

@@ -9,6 +9,8 @@
 #include <stdio.h>
 #include <stdlib.h>
 
+static const char *const names[EVENTS] = {"leak", "flush", "isolate", "standby", "drain"};
+
 /* The shop's table, as examples/shop.c builds it. */
 static const uint8_t table[] = {
     0x0a, 0x06, 0x00, 0x00,             /* five events, six relations, not firm */

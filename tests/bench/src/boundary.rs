@@ -763,8 +763,12 @@ mod tests {
     fn questions_of_every_call_bring_every_number_up() {
         let mut rng = Rng::new(1);
         let mut seen = Seen::new();
-        for turn in 0..50_000 {
-            let question = Question::random(&mut rng, turn % CALLS.len());
+        // Those before sleep and quiet in turn; behind them these two.
+        let before = number_of("sleep");
+        let turns = (0..20_000).map(|turn| turn % before);
+        let further = (0..5_000).map(|turn| before + turn % 2);
+        for call in turns.chain(further) {
+            let question = Question::random(&mut rng, call);
             let answer = question.expected();
             assert_eq!(answer.marking.len(), question.marking.len());
             assert_eq!(answer.second.len(), question.second.len());

@@ -286,7 +286,7 @@ mod tests {
         let calls = chosen("1-6").expect("six calls");
         let edges = edge_questions(calls).step_by(97);
         edges
-            .chain(random_questions(CALLS.iter().collect(), 100, 5))
+            .chain(random_questions(CALLS.iter().collect(), 88, 5))
             .collect()
     }
 

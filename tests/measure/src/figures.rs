@@ -38,7 +38,7 @@ pub fn instructions(machine: &str) -> String {
 /// The heading of the instructions that are held against each other, and to no limits.
 pub const COMPARED: &str = "compared";
 
-fn has_limits(section: &&Section) -> bool {
+fn has_limits(section: &Section) -> bool {
     section.heading != COMPARED
 }
 
@@ -153,7 +153,7 @@ fn hold_section(limits: &Section, measured: &Section, told: &mut Verdict) {
 
 pub fn hold(limits: &[Section], measured: &[Section]) -> Verdict {
     let mut told = Verdict::default();
-    for section in measured.iter().filter(has_limits) {
+    for section in measured.iter().filter(|section| has_limits(section)) {
         match limits.iter().find(|limit| limit.heading == section.heading) {
             Some(limit) => hold_section(limit, section, &mut told),
             None => told.unheld.push(section.heading.clone()),
@@ -164,12 +164,12 @@ pub fn hold(limits: &[Section], measured: &[Section]) -> Verdict {
 
 /// The limits with the measured sections in place of those of the same heading.
 /// What cannot be measured on this machine stays.
-pub fn renewed(limits: Vec<Section>, measured: &[Section]) -> Vec<Section> {
+pub fn renewed(limits: Vec<Section>, measured: Vec<Section>) -> Vec<Section> {
     let mut all = limits;
-    for section in measured.iter().filter(has_limits) {
+    for section in measured.into_iter().filter(has_limits) {
         match all.iter_mut().find(|old| old.heading == section.heading) {
-            Some(old) => old.clone_from(section),
-            None => all.push(section.clone()),
+            Some(old) => *old = section,
+            None => all.push(section),
         }
     }
     all
@@ -283,14 +283,14 @@ check | 100
     fn what_is_compared_has_no_limits() {
         let compared = read("compared | 4×8\nsleep, quiet | 7\n").expect("figures");
         assert_eq!(hold(&limits(), &compared), Verdict::default());
-        assert_eq!(renewed(limits(), &compared), limits());
+        assert_eq!(renewed(limits(), compared), limits());
     }
 
     #[test]
     fn new_figures_take_the_place_of_those_that_were_measured_again() {
         let measured = "instructions on aarch64 | 4×8\ndue | 7\n\nstack | bytes\ndue | 8\n";
         let measured = read(measured).expect("figures");
-        let all = renewed(limits(), &measured);
+        let all = renewed(limits(), measured.clone());
         let old = limits();
         assert_eq!(
             all,

@@ -30,8 +30,8 @@ use crate::trace::{Step, LONGEST_TRACE};
 type Question = fn(&mut Rng) -> Case;
 
 /// The calls with the most behaviour are listed twice, to be asked more often.
-/// What happens is listed by class, and chains, sleeps and quiet ticks are not listed: a
-/// class drawn, or another length, would change what every seed gives.
+/// What happens is listed by class, and chains are not listed: a class drawn, or
+/// another length, would change what every seed gives.
 const QUESTIONS: [Question; 37] = [
     read_table_case,
     read_marking_case,
@@ -75,21 +75,33 @@ const QUESTIONS: [Question; 37] = [
 /// Of so many in a hundred cases of any call a chain is asked.
 const CHAIN_PERCENT: usize = 6;
 
-/// Of so many in a hundred of the others a sleep is asked.
+/// A case of any call but a sleep and quiet ticks. A chain is drawn aside and stands in
+/// the place of another case, which is drawn all the same: what a seed gives in the other
+/// places, and for the other calls, does not depend on there being chains.
+pub fn case(rng: &mut Rng) -> Case {
+    let mut aside = rng.aside();
+    let other = rng.one_of(QUESTIONS)(rng);
+    if aside.chance(CHAIN_PERCENT) {
+        chain_case(&mut aside)
+    } else {
+        other
+    }
+}
+
+/// Of so many in a hundred of the cases that are no chain a sleep is asked.
 const SLEEP_PERCENT: usize = 5;
 
 /// Of so many in a hundred of what is then left quiet ticks are asked.
 const QUIET_PERCENT: usize = 3;
 
-/// A case of any call. Chains, sleeps and quiet ticks are drawn aside and stand in the
-/// place of other cases, which are drawn all the same: what a seed gives in the other
-/// places, and for the other calls, does not depend on there being any of them.
-pub fn case(rng: &mut Rng) -> Case {
+/// A case of any call. Sleeps and quiet ticks are drawn aside, too, and stand in the
+/// place of other cases; chains stand where they stand without them.
+pub fn any_case(rng: &mut Rng) -> Case {
     let mut aside = rng.aside();
-    let other = rng.one_of(QUESTIONS)(rng);
+    let other = case(rng);
     // Chains were there first: what they are drawn from is not to move.
     if aside.chance(CHAIN_PERCENT) {
-        chain_case(&mut aside)
+        other
     } else if aside.chance(SLEEP_PERCENT) {
         sleep_case(&mut aside)
     } else if aside.chance(QUIET_PERCENT) {

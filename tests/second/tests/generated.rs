@@ -21,12 +21,17 @@ const CASES: usize = 20_000;
 
 type Answered = Vec<(Case, Answer)>;
 
-/// The cases of all tests, drawn and answered once: a long sleep takes its time.
+/// The cases of all tests, drawn and answered once: a long sleep takes its time. Behind
+/// them come the sleeps and the quiet ticks that the same seed gives.
 fn answered_cases() -> Arc<Answered> {
     static ANSWERED: Mutex<Option<Arc<Answered>>> = Mutex::new(None);
     let draw = || {
         let mut rng = Rng::new(SEED);
         let cases = (0..CASES).map(|_| generate::case(&mut rng));
+        let mut again = Rng::new(SEED);
+        let others = (0..CASES).map(|_| generate::any_case(&mut again));
+        let others = others.filter(|c| matches!(c, Case::Sleep { .. } | Case::Quiet { .. }));
+        let cases = cases.chain(others);
         Arc::new(cases.map(|case| (case.clone(), case.answer())).collect())
     };
     ANSWERED.lock().unwrap().get_or_insert_with(draw).clone()

@@ -117,7 +117,7 @@ fn sleeps_leave_the_other_cases() {
     for seed in 0..600 {
         let mut rng = Rng::new(seed);
         let mut aside = rng.aside();
-        let first = generate::case(&mut rng);
+        let first = generate::any_case(&mut rng);
         // Past the numbers that decide for it, it is drawn aside.
         aside.next_u64();
         aside.next_u64();
