@@ -68,6 +68,7 @@ pub fn write_table(t: Table, buffer: &mut [u8]) -> u8
 }
 
 // The marking of an image for so many events, or the number of the first rule that it breaks.
+#[inline(never)]
 pub fn read_marking(events: usize, image: &[u8]) -> MarkingAnswer
     ensures { result ≡ read_marking events image.now }
 {
