@@ -3,7 +3,7 @@ use Rattle.std.specs.Prelude.{◌≡◌, Bool, ◌&&◌, ◌||◌, List, ℕ, eq
 use Rattle.rules.specs.declared.Table.{Table}
 use Rattle.rules.specs.declared.Record.{Record}
 use Rattle.rules.specs.declared.Marking.{Marking}
-use Rattle.rules.proofs.Laws.Trace.{turned}
+use Rattle.rules.specs.Shapes.Turned.{turned}
 use Rattle.duties.specs.declared.step.Stepped.{Stepped}
 use Rattle.acts.specs.Stands.{Stands}
 

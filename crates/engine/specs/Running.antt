@@ -7,7 +7,7 @@ use Rattle.rules.specs.Numbers.{◌else◌, done}
 use Rattle.rules.specs.Judge.{judged}
 use Rattle.rules.specs.Check.{verdict}
 use Rattle.rules.specs.Trace.{trace_number}
-use Rattle.rules.proofs.Laws.Trace.{turned}
+use Rattle.rules.specs.Shapes.Turned.{turned}
 use Rattle.engine.specs.declared.trace.Running.{Running}
 
 -- at the start, of so many steps: nothing is run of a trace that is refused

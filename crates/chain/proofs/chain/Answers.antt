@@ -30,7 +30,8 @@ pub listed-count-requires : goal.listed-count-requires
 unfolding chain_number
 listed-count-requires c =
     let a = c.args in
-    let asked = number a.t a.m a.event (length a.list.now) c.judge_table.ensures c.then_marking-judged.ensures c.then_event-asked.ensures c.then_room-number.ensures in
+    let asked = number a.t a.m a.event (length a.list.now) c.judge_table.ensures c.then_marking-judged.ensures c.then_event-asked.ensures
+    c.then_room-number.ensures in
     let granted = sym asked ∙ c.if-number-eq0.true in
     let p = both_done (judged a.t a.m) _ granted in
     let q = both_done (event_number a.t a.event) _ p.1 in record {
@@ -42,7 +43,8 @@ pub returns-then-number-eq0 : goal.returns-then-number-eq0
 unfolding chain_answer chain_list
 returns-then-number-eq0 c =
     let a = c.args in
-    let asked = number a.t a.m a.event (length a.list.now) c.judge_table.ensures c.then_marking-judged.ensures c.then_event-asked.ensures c.then_room-number.ensures in
+    let asked = number a.t a.m a.event (length a.list.now) c.judge_table.ensures c.then_marking-judged.ensures c.then_event-asked.ensures
+    c.then_room-number.ensures in
     let granted = sym asked ∙ c.if-number-eq0.true in
     rw granted record {
       answer = ap (λ (n : ℕ). record { number = 0; count = n }) c.listed-count.ensures.count;
@@ -53,7 +55,8 @@ pub returns : goal.returns
 unfolding chain_answer chain_list
 returns c =
     let a = c.args in
-    let asked = number a.t a.m a.event (length a.list.now) c.judge_table.ensures c.then_marking-judged.ensures c.then_event-asked.ensures c.then_room-number.ensures in
+    let asked = number a.t a.m a.event (length a.list.now) c.judge_table.ensures c.then_marking-judged.ensures c.then_event-asked.ensures
+    c.then_room-number.ensures in
     rw (← asked, ne_eqb _ 0 c.if-number-eq0.false) record {
       answer = refl;
       list = refl;

@@ -12,7 +12,8 @@ use Rattle.rules.specs.Happen.{happen_number}
 use Rattle.rules.specs.Time.{time, plain_tick_number}
 use Rattle.rules.specs.Check.{verdict}
 use Rattle.rules.specs.Guard.{guarded}
-use Rattle.rules.proofs.Laws.Trace.{turned, turned_happen, turned_tick, turned_guarded, turned_wrong, wrong_event, wrong_kind}
+use Rattle.rules.specs.Shapes.Turned.{turned}
+use Rattle.rules.proofs.Laws.Trace.{turned_happen, turned_tick, turned_guarded, turned_wrong, wrong_event, wrong_kind}
 use Rattle.duties.specs.declared.step.Stepped.{Stepped}
 use Rattle.acts.specs.Stands.{Stands}
 use Rattle.duties.specs.Step.{Turned}

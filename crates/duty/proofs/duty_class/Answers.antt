@@ -8,12 +8,16 @@ use Rattle.duty.proofs.duty_class.Goals as goal
 
 pub overflow_add-byte : goal.overflow_add-byte
 overflow_add-byte c =
-    let there : 4 + c.args.event < length c.args.table.now = let a = c.args in class_there a.table.now c.read_table-read.result c.read_table-read.ensures a.event c.missing.ensures c.first_of-number.ensures c.if-number-eq0.true in
+    let there : 4 + c.args.event < length c.args.table.now = let a = c.args in
+    class_there a.table.now c.read_table-read.result c.read_table-read.ensures a.event c.missing.ensures c.first_of-number.ensures
+    c.if-number-eq0.true in
     omega (arith, there)
 
 pub bounds-table-event : goal.bounds-table-event
 bounds-table-event c =
-    let there : 4 + c.args.event < length c.args.table.now = let a = c.args in class_there a.table.now c.read_table-read.result c.read_table-read.ensures a.event c.missing.ensures c.first_of-number.ensures c.if-number-eq0.true in
+    let there : 4 + c.args.event < length c.args.table.now = let a = c.args in
+    class_there a.table.now c.read_table-read.result c.read_table-read.ensures a.event c.missing.ensures c.first_of-number.ensures
+    c.if-number-eq0.true in
     there
 
 pub returns-then-number-eq0 : goal.returns-then-number-eq0

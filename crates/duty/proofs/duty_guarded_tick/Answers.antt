@@ -17,9 +17,11 @@ use Rattle.duty.proofs.duty_guarded_tick.Goals as goal
 
 pub put_first-requires : goal.put_first-requires
 put_first-requires c =
-    let ruled_by : let a = c.args in c.guarded_tick-answer.result ≡ on guarded_tick a.table.now a.marking.now = ruled _ _ _ c.read-read.ensures guarded_tick _ c.guarded_tick-answer.ensures in
+    let ruled_by : let a = c.args in c.guarded_tick-answer.result ≡ on guarded_tick a.table.now a.marking.now =
+    ruled _ _ _ c.read-read.ensures guarded_tick _ c.guarded_tick-answer.ensures in
     let both_read : c.read-read.result.number ≡ 0 = tick_read _ _ _ c.read-read.ensures _ _ _ c.room.ensures c.first_of-number.ensures c.if-number-eq0.true in
-    let has_room : let a = c.args in (table_of a.table.now).events ≤ length a.caused.now = tick_room _ _ _ c.read-read.ensures _ _ _ c.room.ensures c.first_of-number.ensures c.if-number-eq0.true in
+    let has_room : let a = c.args in (table_of a.table.now).events ≤ length a.caused.now =
+    tick_room _ _ _ c.read-read.ensures _ _ _ c.room.ensures c.first_of-number.ensures c.if-number-eq0.true in
     let few = count_few _ _ _ (ruled_by) c.if-answer-eq0.true in
     let judged = read_judged _ _ (is_read _ _ _ c.read-read.ensures (both_read)) in record {
       count_le_most_events = omega (arith, few, (good _ _ judged).table_good.few_events);
@@ -28,10 +30,14 @@ put_first-requires c =
 
 pub returns-then-answer-eq0 : goal.returns-then-answer-eq0
 returns-then-answer-eq0 c =
-    let ruled_by : let a = c.args in c.guarded_tick-answer.result ≡ on guarded_tick a.table.now a.marking.now = ruled _ _ _ c.read-read.ensures guarded_tick _ c.guarded_tick-answer.ensures in
-    let tick_granted : let a = c.args in guard_number a.table.now a.marking.now (length a.caused.now) ≡ 0 = tick_done _ _ _ c.read-read.ensures _ _ _ c.room.ensures c.first_of-number.ensures c.if-number-eq0.true in
+    let ruled_by : let a = c.args in c.guarded_tick-answer.result ≡ on guarded_tick a.table.now a.marking.now =
+    ruled _ _ _ c.read-read.ensures guarded_tick _ c.guarded_tick-answer.ensures in
+    let tick_granted : let a = c.args in guard_number a.table.now a.marking.now (length a.caused.now) ≡ 0 =
+    tick_done _ _ _ c.read-read.ensures _ _ _ c.room.ensures c.first_of-number.ensures c.if-number-eq0.true in
     let both_read : c.read-read.result.number ≡ 0 = tick_read _ _ _ c.read-read.ensures _ _ _ c.room.ensures c.first_of-number.ensures c.if-number-eq0.true in
-    let number : let a = c.args in c.guarded_tick-answer.result.number ≡ (guard_number a.table.now a.marking.now (length a.caused.now) else (on guarded_tick a.table.now a.marking.now).number) = tick_number_lem _ _ _ c.read-read.ensures _ _ _ c.room.ensures c.first_of-number.ensures c.if-number-eq0.true _ _ (ruled_by) in
+    let number : let a = c.args in c.guarded_tick-answer.result.number ≡ (guard_number a.table.now a.marking.now (length a.caused.now) else (on
+    guarded_tick a.table.now a.marking.now).number) = tick_number_lem _ _ _ c.read-read.ensures _ _ _ c.room.ensures c.first_of-number.ensures
+    c.if-number-eq0.true _ _ (ruled_by) in
     let by = ruled_by in
     let ready = tick_granted in
     let taken = c.if-answer-eq0.true in
@@ -48,9 +54,13 @@ returns-then-answer-eq0 c =
 
 pub returns-else-answer-eq0 : goal.returns-else-answer-eq0
 returns-else-answer-eq0 c =
-    let ruled_by : let a = c.args in c.guarded_tick-answer.result ≡ on guarded_tick a.table.now a.marking.now = ruled _ _ _ c.read-read.ensures guarded_tick _ c.guarded_tick-answer.ensures in
-    let tick_granted : let a = c.args in guard_number a.table.now a.marking.now (length a.caused.now) ≡ 0 = tick_done _ _ _ c.read-read.ensures _ _ _ c.room.ensures c.first_of-number.ensures c.if-number-eq0.true in
-    let number : let a = c.args in c.guarded_tick-answer.result.number ≡ (guard_number a.table.now a.marking.now (length a.caused.now) else (on guarded_tick a.table.now a.marking.now).number) = tick_number_lem _ _ _ c.read-read.ensures _ _ _ c.room.ensures c.first_of-number.ensures c.if-number-eq0.true _ _ (ruled_by) in
+    let ruled_by : let a = c.args in c.guarded_tick-answer.result ≡ on guarded_tick a.table.now a.marking.now =
+    ruled _ _ _ c.read-read.ensures guarded_tick _ c.guarded_tick-answer.ensures in
+    let tick_granted : let a = c.args in guard_number a.table.now a.marking.now (length a.caused.now) ≡ 0 =
+    tick_done _ _ _ c.read-read.ensures _ _ _ c.room.ensures c.first_of-number.ensures c.if-number-eq0.true in
+    let number : let a = c.args in c.guarded_tick-answer.result.number ≡ (guard_number a.table.now a.marking.now (length a.caused.now) else (on
+    guarded_tick a.table.now a.marking.now).number) = tick_number_lem _ _ _ c.read-read.ensures _ _ _ c.room.ensures c.first_of-number.ensures
+    c.if-number-eq0.true _ _ (ruled_by) in
     let by = ruled_by in
     let ready = tick_granted in
     let refused = c.if-answer-eq0.false in record {

@@ -6,12 +6,14 @@ use Rattle.duty.proofs.duty_record.Goals as goal
 
 pub offset_bounds-m-event : goal.offset_bounds-m-event
 offset_bounds-m-event c =
-    let exists : c.args.event < 64 = let a = c.args in event_there a.table.now a.marking.now c.read-read.result c.read-read.ensures a.event a.fields.now c.number-asked.ensures c.first_of-number.ensures c.if-number-eq0.true in
+    let exists : c.args.event < 64 = let a = c.args in event_there a.table.now a.marking.now c.read-read.result c.read-read.ensures a.event
+    a.fields.now c.number-asked.ensures c.first_of-number.ensures c.if-number-eq0.true in
     omega (arith, exists)
 
 pub bounds-m-event : goal.bounds-m-event
 bounds-m-event c =
-    let exists : c.args.event < 64 = let a = c.args in event_there a.table.now a.marking.now c.read-read.result c.read-read.ensures a.event a.fields.now c.number-asked.ensures c.first_of-number.ensures c.if-number-eq0.true in
+    let exists : c.args.event < 64 = let a = c.args in event_there a.table.now a.marking.now c.read-read.result c.read-read.ensures a.event
+    a.fields.now c.number-asked.ensures c.first_of-number.ensures c.if-number-eq0.true in
     exists
 
 pub put_fields-requires : goal.put_fields-requires

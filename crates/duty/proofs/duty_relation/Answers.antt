@@ -6,12 +6,14 @@ use Rattle.duty.proofs.duty_relation.Goals as goal
 
 pub offset_bounds-t-relation : goal.offset_bounds-t-relation
 offset_bounds-t-relation c =
-    let exists : c.args.relation < 256 = let a = c.args in relation_there a.table.now c.read_table-read.result c.read_table-read.ensures a.relation a.numbers.now c.number-asked.ensures c.first_of-number.ensures c.if-number-eq0.true in
+    let exists : c.args.relation < 256 = let a = c.args in relation_there a.table.now c.read_table-read.result c.read_table-read.ensures a.relation
+    a.numbers.now c.number-asked.ensures c.first_of-number.ensures c.if-number-eq0.true in
     omega (arith, exists)
 
 pub bounds-t-relation : goal.bounds-t-relation
 bounds-t-relation c =
-    let exists : c.args.relation < 256 = let a = c.args in relation_there a.table.now c.read_table-read.result c.read_table-read.ensures a.relation a.numbers.now c.number-asked.ensures c.first_of-number.ensures c.if-number-eq0.true in
+    let exists : c.args.relation < 256 = let a = c.args in relation_there a.table.now c.read_table-read.result c.read_table-read.ensures a.relation
+    a.numbers.now c.number-asked.ensures c.first_of-number.ensures c.if-number-eq0.true in
     exists
 
 pub put_numbers-requires : goal.put_numbers-requires

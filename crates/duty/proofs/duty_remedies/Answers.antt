@@ -18,8 +18,11 @@ offered-answer-requires c = judged_read _ _ _ c.read-read.ensures c.if-read-eq0.
 pub returns-then-answer-eq0 : goal.returns-then-answer-eq0
 returns-then-answer-eq0 c =
     let rule : Table → Marking → RemedyAnswer = λ t m. remedy t m c.args.preferred.now c.args.fallback.now in
-    let ruled_by : c.offered-answer.result ≡ on (rule) c.args.table.now c.args.marking.now = ruled _ _ _ c.read-read.ensures (rule) _ c.offered-answer.ensures in
-    let number : let a = c.args in c.offered-answer.result.number ≡ (images_number a.table.now a.marking.now else (on (rule) a.table.now a.marking.now).number) = told_number _ _ _ c.read-read.ensures (λ (r : RemedyAnswer). r.number) (ruled_by) (sym (else_done _ c.if-read-eq0.true)) in
+    let ruled_by : c.offered-answer.result ≡ on (rule) c.args.table.now c.args.marking.now =
+    ruled _ _ _ c.read-read.ensures (rule) _ c.offered-answer.ensures in
+    let number : let a = c.args in c.offered-answer.result.number ≡ (images_number a.table.now a.marking.now else (on (rule) a.table.now
+    a.marking.now).number) = told_number _ _ _ c.read-read.ensures (λ (r : RemedyAnswer). r.number) (ruled_by) (sym (else_done _
+    c.if-read-eq0.true)) in
     let by = ruled_by in
     let taken = c.if-answer-eq0.true in record {
       number = number;
@@ -30,8 +33,11 @@ returns-then-answer-eq0 c =
 pub returns-else-answer-eq0 : goal.returns-else-answer-eq0
 returns-else-answer-eq0 c =
     let rule : Table → Marking → RemedyAnswer = λ t m. remedy t m c.args.preferred.now c.args.fallback.now in
-    let ruled_by : c.offered-answer.result ≡ on (rule) c.args.table.now c.args.marking.now = ruled _ _ _ c.read-read.ensures (rule) _ c.offered-answer.ensures in
-    let number : let a = c.args in c.offered-answer.result.number ≡ (images_number a.table.now a.marking.now else (on (rule) a.table.now a.marking.now).number) = told_number _ _ _ c.read-read.ensures (λ (r : RemedyAnswer). r.number) (ruled_by) (sym (else_done _ c.if-read-eq0.true)) in
+    let ruled_by : c.offered-answer.result ≡ on (rule) c.args.table.now c.args.marking.now =
+    ruled _ _ _ c.read-read.ensures (rule) _ c.offered-answer.ensures in
+    let number : let a = c.args in c.offered-answer.result.number ≡ (images_number a.table.now a.marking.now else (on (rule) a.table.now
+    a.marking.now).number) = told_number _ _ _ c.read-read.ensures (λ (r : RemedyAnswer). r.number) (ruled_by) (sym (else_done _
+    c.if-read-eq0.true)) in
     let refused = c.if-answer-eq0.false in record {
       number = number;
       list = left _ _ _ refused;

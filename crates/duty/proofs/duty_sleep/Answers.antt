@@ -18,11 +18,19 @@ use Rattle.duty.proofs.duty_sleep.Goals as goal
 pub returns-then-answer-eq0 : goal.returns-then-answer-eq0
 returns-then-answer-eq0 c =
     let rule : Table → Marking → SleptAnswer = λ t m. sleep_answer t m c.args.ticks (length c.args.list.now) in
-    let ruled_by : c.sleep-answer.result ≡ on (rule) c.args.table.now c.args.marking.now = ruled _ _ _ c.read-read.ensures (rule) _ c.sleep-answer.ensures.answer in
-    let number : let a = c.args in c.sleep-answer.result.number ≡ (images_number a.table.now a.marking.now else (on (rule) a.table.now a.marking.now).number) = ap (λ (r : SleptAnswer). r.number) (ruled_by) ∙ own_number _ _ _ c.read-read.ensures c.if-read-eq0.true _ in
+    let ruled_by : c.sleep-answer.result ≡ on (rule) c.args.table.now c.args.marking.now =
+    ruled _ _ _ c.read-read.ensures (rule) _ c.sleep-answer.ensures.answer in
+    let number : let a = c.args in c.sleep-answer.result.number ≡ (images_number a.table.now a.marking.now else (on (rule) a.table.now
+    a.marking.now).number) = ap (λ (r : SleptAnswer). r.number) (ruled_by) ∙ own_number _ _ _ c.read-read.ensures c.if-read-eq0.true _ in
     let listed : List ℕ = on sleep_list c.args.table.now c.args.marking.now c.args.ticks c.args.list.now in
-    let list_told : sleep_list c.read-read.result.table c.read-read.result.marking c.args.ticks c.args.list.now ≡ done c.sleep-answer.result.number (listed) c.args.list.now = let a = c.args in ruled _ _ _ c.read-read.ensures (λ t m. sleep_list t m a.ticks a.list.now) _ refl ∙ sleep_told _ _ a.ticks a.list.now ∙ ap (λ (n : ℕ). done n (listed) a.list.now) (sym (ap (λ (r : SleptAnswer). r.number) (ruled_by))) in
-    let said : (value : SleptAnswer → ℕ) (before after : ℕ) → after ≡ verdict_told c.sleep-answer.result.number (value c.sleep-answer.result) before → after ≡ done (images_number c.args.table.now c.args.marking.now) (verdict_told c.sleep-answer.result.number (value (on (rule) c.args.table.now c.args.marking.now)) before) before = λ value before after told. let read = is_read _ _ _ c.read-read.ensures c.if-read-eq0.true in told ∙ ap (λ (a : SleptAnswer). verdict_told c.sleep-answer.result.number (value a) before) (ruled_by) ∙ rw read in
+    let list_told : sleep_list c.read-read.result.table c.read-read.result.marking c.args.ticks c.args.list.now ≡ done c.sleep-answer.result.number
+    (listed) c.args.list.now = let a = c.args in ruled _ _ _ c.read-read.ensures (λ t m. sleep_list t m a.ticks a.list.now) _ refl
+    ∙ sleep_told _ _ a.ticks a.list.now ∙ ap (λ (n : ℕ). done n (listed) a.list.now) (sym (ap (λ (r : SleptAnswer). r.number) (ruled_by))) in
+    let said : (value : SleptAnswer → ℕ) (before after : ℕ) → after ≡ verdict_told c.sleep-answer.result.number (value c.sleep-answer.result) before
+    → after ≡ done (images_number c.args.table.now c.args.marking.now) (verdict_told c.sleep-answer.result.number (value (on (rule)
+    c.args.table.now c.args.marking.now)) before) before = λ value before after told. let read =
+    is_read _ _ _ c.read-read.ensures c.if-read-eq0.true in told ∙ ap (λ (a : SleptAnswer). verdict_told c.sleep-answer.result.number (value a)
+    before) (ruled_by) ∙ rw read in
     let a = c.args in
     let by = ruled_by in
     let whole =
@@ -41,11 +49,19 @@ returns-then-answer-eq0 c =
 pub returns-else-answer-eq0 : goal.returns-else-answer-eq0
 returns-else-answer-eq0 c =
     let rule : Table → Marking → SleptAnswer = λ t m. sleep_answer t m c.args.ticks (length c.args.list.now) in
-    let ruled_by : c.sleep-answer.result ≡ on (rule) c.args.table.now c.args.marking.now = ruled _ _ _ c.read-read.ensures (rule) _ c.sleep-answer.ensures.answer in
-    let number : let a = c.args in c.sleep-answer.result.number ≡ (images_number a.table.now a.marking.now else (on (rule) a.table.now a.marking.now).number) = ap (λ (r : SleptAnswer). r.number) (ruled_by) ∙ own_number _ _ _ c.read-read.ensures c.if-read-eq0.true _ in
+    let ruled_by : c.sleep-answer.result ≡ on (rule) c.args.table.now c.args.marking.now =
+    ruled _ _ _ c.read-read.ensures (rule) _ c.sleep-answer.ensures.answer in
+    let number : let a = c.args in c.sleep-answer.result.number ≡ (images_number a.table.now a.marking.now else (on (rule) a.table.now
+    a.marking.now).number) = ap (λ (r : SleptAnswer). r.number) (ruled_by) ∙ own_number _ _ _ c.read-read.ensures c.if-read-eq0.true _ in
     let listed : List ℕ = on sleep_list c.args.table.now c.args.marking.now c.args.ticks c.args.list.now in
-    let list_told : sleep_list c.read-read.result.table c.read-read.result.marking c.args.ticks c.args.list.now ≡ done c.sleep-answer.result.number (listed) c.args.list.now = let a = c.args in ruled _ _ _ c.read-read.ensures (λ t m. sleep_list t m a.ticks a.list.now) _ refl ∙ sleep_told _ _ a.ticks a.list.now ∙ ap (λ (n : ℕ). done n (listed) a.list.now) (sym (ap (λ (r : SleptAnswer). r.number) (ruled_by))) in
-    let said : (value : SleptAnswer → ℕ) (before after : ℕ) → after ≡ verdict_told c.sleep-answer.result.number (value c.sleep-answer.result) before → after ≡ done (images_number c.args.table.now c.args.marking.now) (verdict_told c.sleep-answer.result.number (value (on (rule) c.args.table.now c.args.marking.now)) before) before = λ value before after told. let read = is_read _ _ _ c.read-read.ensures c.if-read-eq0.true in told ∙ ap (λ (a : SleptAnswer). verdict_told c.sleep-answer.result.number (value a) before) (ruled_by) ∙ rw read in
+    let list_told : sleep_list c.read-read.result.table c.read-read.result.marking c.args.ticks c.args.list.now ≡ done c.sleep-answer.result.number
+    (listed) c.args.list.now = let a = c.args in ruled _ _ _ c.read-read.ensures (λ t m. sleep_list t m a.ticks a.list.now) _ refl
+    ∙ sleep_told _ _ a.ticks a.list.now ∙ ap (λ (n : ℕ). done n (listed) a.list.now) (sym (ap (λ (r : SleptAnswer). r.number) (ruled_by))) in
+    let said : (value : SleptAnswer → ℕ) (before after : ℕ) → after ≡ verdict_told c.sleep-answer.result.number (value c.sleep-answer.result) before
+    → after ≡ done (images_number c.args.table.now c.args.marking.now) (verdict_told c.sleep-answer.result.number (value (on (rule)
+    c.args.table.now c.args.marking.now)) before) before = λ value before after told. let read =
+    is_read _ _ _ c.read-read.ensures c.if-read-eq0.true in told ∙ ap (λ (a : SleptAnswer). verdict_told c.sleep-answer.result.number (value a)
+    before) (ruled_by) ∙ rw read in
     let refused = c.if-answer-eq0.false in record {
       number = number;
       marking = left _ _ _ refused;

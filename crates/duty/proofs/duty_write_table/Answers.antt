@@ -27,14 +27,16 @@ returns-then-number-ne0 c =
 
 pub classes_from-sets-requires : goal.classes_from-sets-requires
 classes_from-sets-requires c =
-    let counted : let a = c.args in counts_number a.events (length a.classes.now) (length a.relations.now) ≡ 0 = sym c.counts_number-number.ensures ∙ c.if-number-ne0.false in
+    let counted : let a = c.args in counts_number a.events (length a.classes.now) (length a.relations.now) ≡ 0 = sym c.counts_number-number.ensures
+    ∙ c.if-number-ne0.false in
     let a = c.args in
     let few = events_few a.events a.firm a.classes.now a.relations.now c.if-firm-gt1.false (counted) in
     omega (arith, few, classes_long a.events a.firm a.classes.now a.relations.now c.if-firm-gt1.false (counted))
 
 pub returns-then-sets-ne0 : goal.returns-then-sets-ne0
 returns-then-sets-ne0 c =
-    let counted : let a = c.args in counts_number a.events (length a.classes.now) (length a.relations.now) ≡ 0 = sym c.counts_number-number.ensures ∙ c.if-number-ne0.false in
+    let counted : let a = c.args in counts_number a.events (length a.classes.now) (length a.relations.now) ≡ 0 = sym c.counts_number-number.ensures
+    ∙ c.if-number-ne0.false in
     let a = c.args in
     let first =
     classes_refuse a.events a.firm a.classes.now a.relations.now c.if-firm-gt1.false (counted) c.classes_from-sets.result
@@ -45,13 +47,15 @@ returns-then-sets-ne0 c =
 
 pub table_from-t-requires : goal.table_from-t-requires
 table_from-t-requires c =
-    let counted : let a = c.args in counts_number a.events (length a.classes.now) (length a.relations.now) ≡ 0 = sym c.counts_number-number.ensures ∙ c.if-number-ne0.false in
+    let counted : let a = c.args in counts_number a.events (length a.classes.now) (length a.relations.now) ≡ 0 = sym c.counts_number-number.ensures
+    ∙ c.if-number-ne0.false in
     let a = c.args in
     relations_few a.events a.firm a.classes.now a.relations.now c.if-firm-gt1.false (counted)
 
 pub returns : goal.returns
 returns c =
-    let counted : let a = c.args in counts_number a.events (length a.classes.now) (length a.relations.now) ≡ 0 = sym c.counts_number-number.ensures ∙ c.if-number-ne0.false in
+    let counted : let a = c.args in counts_number a.events (length a.classes.now) (length a.relations.now) ≡ 0 = sym c.counts_number-number.ensures
+    ∙ c.if-number-ne0.false in
     let a = c.args in record {
       number = (table_written_lem a.events a.firm a.classes.now a.relations.now c.if-firm-gt1.false (counted) c.classes_from-sets.result
           c.classes_from-sets.ensures c.if-sets-ne0.false c.table_from-t.result c.table_from-t.ensures a.table.now

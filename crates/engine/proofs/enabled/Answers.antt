@@ -10,7 +10,8 @@ use Rattle.engine.proofs.enabled.Goals as goal
 
 pub is_enabled-enabled-requires : goal.is_enabled-enabled-requires
 is_enabled-enabled-requires c =
-    let event_number_lem : c.then_event-number.result ≡ (judged c.args.t c.args.m else event_number c.args.t c.args.event) = event_by _ _ _ (judged_by _ _ c.judge_table.ensures c.then_marking-judged.ensures) c.then_event-number.ensures in
+    let event_number_lem : c.then_event-number.result ≡ (judged c.args.t c.args.m else event_number c.args.t c.args.event) =
+    event_by _ _ _ (judged_by _ _ c.judge_table.ensures c.then_marking-judged.ensures) c.then_event-number.ensures in
     record {
       good = (event_told _ _ _ (sym (event_number_lem) ∙ c.if-number-eq0.true)).0;
       e_bound = (event_told _ _ _ (sym (event_number_lem) ∙ c.if-number-eq0.true)).1;
@@ -19,11 +20,13 @@ is_enabled-enabled-requires c =
 pub returns-then-number-eq0 : goal.returns-then-number-eq0
 unfolding enabled_answer
 returns-then-number-eq0 c =
-    let event_number_lem : c.then_event-number.result ≡ (judged c.args.t c.args.m else event_number c.args.t c.args.event) = event_by _ _ _ (judged_by _ _ c.judge_table.ensures c.then_marking-judged.ensures) c.then_event-number.ensures in
+    let event_number_lem : c.then_event-number.result ≡ (judged c.args.t c.args.m else event_number c.args.t c.args.event) =
+    event_by _ _ _ (judged_by _ _ c.judge_table.ensures c.then_marking-judged.ensures) c.then_event-number.ensures in
     rw (sym (event_number_lem) ∙ c.if-number-eq0.true, c.is_enabled-enabled.ensures)
 
 pub returns : goal.returns
 unfolding enabled_answer
 returns c =
-    let event_number_lem : c.then_event-number.result ≡ (judged c.args.t c.args.m else event_number c.args.t c.args.event) = event_by _ _ _ (judged_by _ _ c.judge_table.ensures c.then_marking-judged.ensures) c.then_event-number.ensures in
+    let event_number_lem : c.then_event-number.result ≡ (judged c.args.t c.args.m else event_number c.args.t c.args.event) =
+    event_by _ _ _ (judged_by _ _ c.judge_table.ensures c.then_marking-judged.ensures) c.then_event-number.ensures in
     rw (← event_number_lem, ne_eqb _ _ c.if-number-eq0.false)

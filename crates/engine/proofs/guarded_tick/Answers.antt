@@ -67,21 +67,27 @@ pub returns-in-Refused : goal.returns-in-Refused
 returns-in-Refused c =
     let number : c.then_marking-number.result ≡ judged c.args.t c.args.m = judged_by _ _ c.judge_table.ensures c.then_marking-number.ensures in
     let granted : judged c.args.t c.args.m ≡ 0 = sym (number) ∙ c.if-number-ne0.false in
-    let told : let a = c.args in c.verdict-verdict.result ≡ verdict a.t a.m = let a = c.args in let d = granted in let stands = laid_out a.t a.m d c.lay.ensures in c.verdict-verdict.ensures ∙ c.found-found.ensures a.t (unused a.m) 0 _ a.m (table_good _ _ d) c.derived.ensures.derived c.head_of-head.ensures stands in
+    let told : let a = c.args in c.verdict-verdict.result ≡ verdict a.t a.m = let a = c.args in let d = granted in let stands =
+    laid_out a.t a.m d c.lay.ensures in c.verdict-verdict.ensures ∙ c.found-found.ensures a.t (unused a.m) 0 _ a.m (table_good _ _ d)
+    c.derived.ensures.derived c.head_of-head.ensures stands in
     c.nothing-in-Refused.ensures ∙ tick_refused _ _ (granted) _ (sym (told) ∙ c.in-Refused.is)
 
 pub returns-in-Rejects : goal.returns-in-Rejects
 returns-in-Rejects c =
     let number : c.then_marking-number.result ≡ judged c.args.t c.args.m = judged_by _ _ c.judge_table.ensures c.then_marking-number.ensures in
     let granted : judged c.args.t c.args.m ≡ 0 = sym (number) ∙ c.if-number-ne0.false in
-    let told : let a = c.args in c.verdict-verdict.result ≡ verdict a.t a.m = let a = c.args in let d = granted in let stands = laid_out a.t a.m d c.lay.ensures in c.verdict-verdict.ensures ∙ c.found-found.ensures a.t (unused a.m) 0 _ a.m (table_good _ _ d) c.derived.ensures.derived c.head_of-head.ensures stands in
+    let told : let a = c.args in c.verdict-verdict.result ≡ verdict a.t a.m = let a = c.args in let d = granted in let stands =
+    laid_out a.t a.m d c.lay.ensures in c.verdict-verdict.ensures ∙ c.found-found.ensures a.t (unused a.m) 0 _ a.m (table_good _ _ d)
+    c.derived.ensures.derived c.head_of-head.ensures stands in
     c.nothing-in-Rejects.ensures ∙ tick_rejected _ _ (granted) _ _ (sym (told) ∙ c.in-Rejects.is)
 
 pub returns-in-Accepts : goal.returns-in-Accepts
 returns-in-Accepts c =
     let number : c.then_marking-number.result ≡ judged c.args.t c.args.m = judged_by _ _ c.judge_table.ensures c.then_marking-number.ensures in
     let granted : judged c.args.t c.args.m ≡ 0 = sym (number) ∙ c.if-number-ne0.false in
-    let told : let a = c.args in c.verdict-verdict.result ≡ verdict a.t a.m = let a = c.args in let d = granted in let stands = laid_out a.t a.m d c.lay.ensures in c.verdict-verdict.ensures ∙ c.found-found.ensures a.t (unused a.m) 0 _ a.m (table_good _ _ d) c.derived.ensures.derived c.head_of-head.ensures stands in
+    let told : let a = c.args in c.verdict-verdict.result ≡ verdict a.t a.m = let a = c.args in let d = granted in let stands =
+    laid_out a.t a.m d c.lay.ensures in c.verdict-verdict.ensures ∙ c.found-found.ensures a.t (unused a.m) 0 _ a.m (table_good _ _ d)
+    c.derived.ensures.derived c.head_of-head.ensures stands in
     let a = c.args in
     let d = granted in
     let words = c.derived.ensures in

@@ -61,7 +61,10 @@ pub returns-then-number-eq0 : goal.returns-then-number-eq0
 returns-then-number-eq0 c =
     let number : c.then_marking-judged.result ≡ judged c.args.t c.args.m = judged_by _ _ c.judge_table.ensures c.then_marking-judged.ensures in
     let judged_done : judged c.args.t c.args.m ≡ 0 = sym (number) ∙ c.if-judged-ne0.false in
-    let told : let a = c.args in (c.happen-number.result ≡ happen_number a.t a.m a.event) × Stands a.t.events (unused a.m) 0 c.happen-number.new.sets c.happen-number.new.columns (done c.happen-number.result (effect a.t a.m a.event) a.m) = let a = c.args in let d = judged_done in c.happen-number.ensures a.t (unused a.m) a.m (table_good _ _ d) c.head_of-head.ensures (λ b. c.own.ensures.own) (laid_out a.t a.m d c.lay.ensures) in
+    let told : let a = c.args in (c.happen-number.result ≡ happen_number a.t a.m a.event)
+    × Stands a.t.events (unused a.m) 0 c.happen-number.new.sets c.happen-number.new.columns (done c.happen-number.result (effect a.t a.m a.event)
+    a.m) = let a = c.args in let d = judged_done in c.happen-number.ensures a.t (unused a.m) a.m (table_good _ _ d) c.head_of-head.ensures (λ b.
+    c.own.ensures.own) (laid_out a.t a.m d c.lay.ensures) in
     let d = judged_done in
     acted_done _ _ c.if-number-eq0.true (told).0
     (given_back c.args.t c.args.m d _ _ _ c.give-executed.ensures (told).1)
@@ -71,5 +74,8 @@ pub returns : goal.returns
 returns c =
     let number : c.then_marking-judged.result ≡ judged c.args.t c.args.m = judged_by _ _ c.judge_table.ensures c.then_marking-judged.ensures in
     let judged_done : judged c.args.t c.args.m ≡ 0 = sym (number) ∙ c.if-judged-ne0.false in
-    let told : let a = c.args in (c.happen-number.result ≡ happen_number a.t a.m a.event) × Stands a.t.events (unused a.m) 0 c.happen-number.new.sets c.happen-number.new.columns (done c.happen-number.result (effect a.t a.m a.event) a.m) = let a = c.args in let d = judged_done in c.happen-number.ensures a.t (unused a.m) a.m (table_good _ _ d) c.head_of-head.ensures (λ b. c.own.ensures.own) (laid_out a.t a.m d c.lay.ensures) in
+    let told : let a = c.args in (c.happen-number.result ≡ happen_number a.t a.m a.event)
+    × Stands a.t.events (unused a.m) 0 c.happen-number.new.sets c.happen-number.new.columns (done c.happen-number.result (effect a.t a.m a.event)
+    a.m) = let a = c.args in let d = judged_done in c.happen-number.ensures a.t (unused a.m) a.m (table_good _ _ d) c.head_of-head.ensures (λ b.
+    c.own.ensures.own) (laid_out a.t a.m d c.lay.ensures) in
     acted_refused _ _ c.if-number-eq0.false (told).0 ∙ happen_judged _ _ _ (judged_done)

@@ -42,7 +42,11 @@ pub returns-then-relation-t : goal.returns-then-relation-t
 unfolding margin
 returns-then-relation-t c =
     let number : c.then_marking-number.result ≡ judged c.args.t c.args.m = judged_by _ _ c.judge_table.ensures c.then_marking-number.ensures in
-    let is : c.margin_of.result ≡ margin c.args.t c.args.m c.args.relation = (rw (sym (number) ∙ c.if-number-eq0.true, lt-ltb _ _ c.if-relation-t.true) c.margin_of.ensures) in
+    let is : c.margin_of.result ≡ margin c.args.t c.args.m c.args.relation = (rw (
+      sym (number)
+          ∙ c.if-number-eq0.true,
+      lt-ltb _ _ c.if-relation-t.true,
+    ) c.margin_of.ensures) in
     let whole = margin_whole c.args.t c.args.m c.args.relation is in
     record {
       answer = whole.0;
@@ -65,7 +69,8 @@ unfolding margin
 returns c =
     let number : c.then_marking-number.result ≡ judged c.args.t c.args.m = judged_by _ _ c.judge_table.ensures c.then_marking-number.ensures in
     let next = 8 if not (ltb c.args.relation c.args.t.count) in
-    let is : Refused c.then_marking-number.result ≡ margin c.args.t c.args.m c.args.relation = (rw (← stands next (number) c.if-number-eq0.false, ne_eqb _ _ c.if-number-eq0.false)) in
+    let is : Refused c.then_marking-number.result ≡ margin c.args.t c.args.m c.args.relation =
+    (rw (← stands next (number) c.if-number-eq0.false, ne_eqb _ _ c.if-number-eq0.false)) in
     let whole = margin_whole c.args.t c.args.m c.args.relation is in
     record {
       answer = whole.0;

@@ -71,7 +71,8 @@ tried-first-requires c =
     let number : let a = c.args in c.then_marking-refusal.result ≡ judged a.t a.m = judged_by _ _ c.judge_table.ensures c.then_marking-refusal.ensures in
     let granted : judged c.args.t c.args.m ≡ 0 = sym (number) ∙ c.if-refusal-ne0.false in
     let good : let a = c.args in judged a.t a.m ≡ 0 = granted in
-    let few : (0 < c.head_of-head.result.events) × (c.head_of-head.result.events ≤ 64) = let h = c.head_of-head.ensures in (rw h (some_events _ _ (good)), rw h (table_good _ _ (good)).few_events) in
+    let few : (0 < c.head_of-head.result.events) × (c.head_of-head.result.events ≤ 64) = let h = c.head_of-head.ensures in
+    (rw h (some_events _ _ (good)), rw h (table_good _ _ (good)).few_events) in
     let words = c.derived.ensures in
     let counts = few in
     (counts.0, counts.1, words.derived.size, words.linked.size)
@@ -92,7 +93,10 @@ returns-then-due-eq0 c =
     let number : let a = c.args in c.then_marking-refusal.result ≡ judged a.t a.m = judged_by _ _ c.judge_table.ensures c.then_marking-refusal.ensures in
     let granted : judged c.args.t c.args.m ≡ 0 = sym (number) ∙ c.if-refusal-ne0.false in
     let good : let a = c.args in judged a.t a.m ≡ 0 = granted in
-    let first_told : let a = c.args in (after : Marking) × ((c.due.result ≡ due_set after) × Tried a.t a.m a.preferred.now c.tried-first.result after) = let a = c.args in let words = c.derived.ensures in let stands = laid_out a.t a.m (good) c.lay.ensures in let w = c.tried-first.ensures.stands a.t (unused a.m) a.m (good) words.derived words.linked c.head_of-head.ensures stands in (w.0, (c.due.ensures (unused a.m) w.0 w.1, w.2)) in
+    let first_told : let a = c.args in (after : Marking) × ((c.due.result ≡ due_set after)
+    × Tried a.t a.m a.preferred.now c.tried-first.result after) = let a = c.args in let words = c.derived.ensures in let stands =
+    laid_out a.t a.m (good) c.lay.ensures in let w = c.tried-first.ensures.stands a.t (unused a.m) a.m (good) words.derived words.linked
+    c.head_of-head.ensures stands in (w.0, (c.due.ensures (unused a.m) w.0 w.1, w.2)) in
     let a = c.args in
     let w = first_told in
     let is = start_found w.1.1 (sym w.1.0 ∙ c.if-due-eq0.true) in
@@ -109,7 +113,8 @@ tried-second-requires c =
     let number : let a = c.args in c.then_marking-refusal.result ≡ judged a.t a.m = judged_by _ _ c.judge_table.ensures c.then_marking-refusal.ensures in
     let granted : judged c.args.t c.args.m ≡ 0 = sym (number) ∙ c.if-refusal-ne0.false in
     let good : let a = c.args in judged a.t a.m ≡ 0 = granted in
-    let few : (0 < c.head_of-head.result.events) × (c.head_of-head.result.events ≤ 64) = let h = c.head_of-head.ensures in (rw h (some_events _ _ (good)), rw h (table_good _ _ (good)).few_events) in
+    let few : (0 < c.head_of-head.result.events) × (c.head_of-head.result.events ≤ 64) = let h = c.head_of-head.ensures in
+    (rw h (some_events _ _ (good)), rw h (table_good _ _ (good)).few_events) in
     let words = c.derived.ensures in
     let counts = few in
     (counts.0, counts.1, words.derived.size, words.linked.size)
@@ -130,9 +135,16 @@ returns-then-due-eq0-2 c =
     let number : let a = c.args in c.then_marking-refusal.result ≡ judged a.t a.m = judged_by _ _ c.judge_table.ensures c.then_marking-refusal.ensures in
     let granted : judged c.args.t c.args.m ≡ 0 = sym (number) ∙ c.if-refusal-ne0.false in
     let good : let a = c.args in judged a.t a.m ≡ 0 = granted in
-    let second_told : let a = c.args in (after : Marking) × ((c.due-2.result ≡ due_set after) × Tried a.t a.m a.fallback.now c.tried-second.result after) = let a = c.args in let words = c.derived.ensures in let stands = laid_out a.t a.m (good) c.lay.ensures in let w = c.tried-second.ensures.stands a.t (unused a.m) a.m (good) words.derived words.linked c.head_of-head.ensures stands in (w.0, (c.due-2.ensures (unused a.m) w.0 w.1, w.2)) in
-    let first_told : let a = c.args in (after : Marking) × ((c.due.result ≡ due_set after) × Tried a.t a.m a.preferred.now c.tried-first.result after) = let a = c.args in let words = c.derived.ensures in let stands = laid_out a.t a.m (good) c.lay.ensures in let w = c.tried-first.ensures.stands a.t (unused a.m) a.m (good) words.derived words.linked c.head_of-head.ensures stands in (w.0, (c.due.ensures (unused a.m) w.0 w.1, w.2)) in
-    let none_first : let a = c.args in shortest a.t a.m a.preferred.now ≡ length a.preferred.now + 1 = let w = first_told in none_found w.1.1 (λ z. c.if-due-eq0.false (w.1.0 ∙ z)) in
+    let second_told : let a = c.args in (after : Marking) × ((c.due-2.result ≡ due_set after)
+    × Tried a.t a.m a.fallback.now c.tried-second.result after) = let a = c.args in let words = c.derived.ensures in let stands =
+    laid_out a.t a.m (good) c.lay.ensures in let w = c.tried-second.ensures.stands a.t (unused a.m) a.m (good) words.derived words.linked
+    c.head_of-head.ensures stands in (w.0, (c.due-2.ensures (unused a.m) w.0 w.1, w.2)) in
+    let first_told : let a = c.args in (after : Marking) × ((c.due.result ≡ due_set after)
+    × Tried a.t a.m a.preferred.now c.tried-first.result after) = let a = c.args in let words = c.derived.ensures in let stands =
+    laid_out a.t a.m (good) c.lay.ensures in let w = c.tried-first.ensures.stands a.t (unused a.m) a.m (good) words.derived words.linked
+    c.head_of-head.ensures stands in (w.0, (c.due.ensures (unused a.m) w.0 w.1, w.2)) in
+    let none_first : let a = c.args in shortest a.t a.m a.preferred.now ≡ length a.preferred.now + 1 = let w = first_told in
+    none_found w.1.1 (λ z. c.if-due-eq0.false (w.1.0 ∙ z)) in
     let a = c.args in
     let w = second_told in
     let is = start_found w.1.1 (sym w.1.0 ∙ c.if-due-eq0-2.true) in
@@ -149,9 +161,16 @@ returns c =
     let number : let a = c.args in c.then_marking-refusal.result ≡ judged a.t a.m = judged_by _ _ c.judge_table.ensures c.then_marking-refusal.ensures in
     let granted : judged c.args.t c.args.m ≡ 0 = sym (number) ∙ c.if-refusal-ne0.false in
     let good : let a = c.args in judged a.t a.m ≡ 0 = granted in
-    let second_told : let a = c.args in (after : Marking) × ((c.due-2.result ≡ due_set after) × Tried a.t a.m a.fallback.now c.tried-second.result after) = let a = c.args in let words = c.derived.ensures in let stands = laid_out a.t a.m (good) c.lay.ensures in let w = c.tried-second.ensures.stands a.t (unused a.m) a.m (good) words.derived words.linked c.head_of-head.ensures stands in (w.0, (c.due-2.ensures (unused a.m) w.0 w.1, w.2)) in
-    let first_told : let a = c.args in (after : Marking) × ((c.due.result ≡ due_set after) × Tried a.t a.m a.preferred.now c.tried-first.result after) = let a = c.args in let words = c.derived.ensures in let stands = laid_out a.t a.m (good) c.lay.ensures in let w = c.tried-first.ensures.stands a.t (unused a.m) a.m (good) words.derived words.linked c.head_of-head.ensures stands in (w.0, (c.due.ensures (unused a.m) w.0 w.1, w.2)) in
-    let none_first : let a = c.args in shortest a.t a.m a.preferred.now ≡ length a.preferred.now + 1 = let w = first_told in none_found w.1.1 (λ z. c.if-due-eq0.false (w.1.0 ∙ z)) in
+    let second_told : let a = c.args in (after : Marking) × ((c.due-2.result ≡ due_set after)
+    × Tried a.t a.m a.fallback.now c.tried-second.result after) = let a = c.args in let words = c.derived.ensures in let stands =
+    laid_out a.t a.m (good) c.lay.ensures in let w = c.tried-second.ensures.stands a.t (unused a.m) a.m (good) words.derived words.linked
+    c.head_of-head.ensures stands in (w.0, (c.due-2.ensures (unused a.m) w.0 w.1, w.2)) in
+    let first_told : let a = c.args in (after : Marking) × ((c.due.result ≡ due_set after)
+    × Tried a.t a.m a.preferred.now c.tried-first.result after) = let a = c.args in let words = c.derived.ensures in let stands =
+    laid_out a.t a.m (good) c.lay.ensures in let w = c.tried-first.ensures.stands a.t (unused a.m) a.m (good) words.derived words.linked
+    c.head_of-head.ensures stands in (w.0, (c.due.ensures (unused a.m) w.0 w.1, w.2)) in
+    let none_first : let a = c.args in shortest a.t a.m a.preferred.now ≡ length a.preferred.now + 1 = let w = first_told in
+    none_found w.1.1 (λ z. c.if-due-eq0.false (w.1.0 ∙ z)) in
     let a = c.args in
     let w = second_told in
     let none = none_found w.1.1 (λ z. c.if-due-eq0-2.false (w.1.0 ∙ z)) in

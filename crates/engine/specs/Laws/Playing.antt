@@ -8,7 +8,8 @@ use Rattle.rules.specs.declared.CheckAnswer.TheVariants.{Accepts}
 use Rattle.rules.specs.Judge.{judged}
 use Rattle.rules.specs.Check.{verdict}
 use Rattle.rules.specs.Trace.{end_of, answers_of, steps_in}
-use Rattle.rules.proofs.Laws.Trace.{turned, after_all_bytes}
+use Rattle.rules.specs.Shapes.Turned.{turned}
+use Rattle.rules.proofs.Laws.Trace.{after_all_bytes}
 use Rattle.engine.specs.declared.trace.Running.{Running}
 use Rattle.duties.specs.declared.step.Stepped.{Stepped}
 use Rattle.acts.specs.Stands.{Stands}

@@ -19,7 +19,8 @@ use Rattle.rules.proofs.Laws.Tests.{clash, both, either}
 use Rattle.rules.proofs.Laws.Numbers.{both_done}
 use Rattle.rules.specs.Shapes.Good.{GoodTable}
 use Rattle.rules.proofs.Laws.Judge.{good}
-use Rattle.rules.proofs.Laws.Trace.{turned, stepped_judged, no_step_lem, steps_length, steps_at, After, after_none, after_more, after_all, trace_granted}
+use Rattle.rules.specs.Shapes.Turned.{turned}
+use Rattle.rules.proofs.Laws.Trace.{stepped_judged, no_step_lem, steps_length, steps_at, After, after_none, after_more, after_all, trace_granted}
 use Rattle.rules.proofs.Demand3.Accepts.{check_parts, check_accepts}
 use Rattle.rules.proofs.Demand3.Statements.{still_accepts as accepts-on}
 use Rattle.engine.specs.declared.trace.Running.{Running}

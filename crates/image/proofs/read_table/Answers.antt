@@ -56,7 +56,8 @@ returns-then-image-events c =
     let fit : events_fit (events_in c.args.image.now) ≡ true = sym (judged) ∙ c.if-not-events_fit.false in
     let relations : c.word-w.result / 65536 % 512 ≡ relations_in c.args.image.now = ap (λ (w : ℕ). w / 65536 % 512) c.word-w.ensures ∙ header_relations _ in
     let few : relations_in c.args.image.now ≤ most_relations = rw (relations) at c.if-count-gt-MOST_RELATIONS.false in
-    let said : 4 + c.word-w.result / 33554432 % 128 + 6 * (c.word-w.result / 65536 % 512) ≡ table_length (events_in c.args.image.now) (relations_in c.args.image.now) = ap₂ table_length (events) (relations) in
+    let said : 4 + c.word-w.result / 33554432 % 128 + 6 * (c.word-w.result / 65536 % 512) ≡ table_length (events_in c.args.image.now) (relations_in
+    c.args.image.now) = ap₂ table_length (events) (relations) in
     c.refused-then-image-events.ensures
     ∙ ends_length _ c.if-image-lt4.false (clear)
     (fit) (few) (λ z. c.if-image-events.true (z ∙ sym (said)))
@@ -67,7 +68,8 @@ classes_in-classes-requires c =
     let judged : c.events_fit.result ≡ events_fit (events_in c.args.image.now) = c.events_fit.ensures ∙ ap events_fit (events) in
     let fit : events_fit (events_in c.args.image.now) ≡ true = sym (judged) ∙ c.if-not-events_fit.false in
     let relations : c.word-w.result / 65536 % 512 ≡ relations_in c.args.image.now = ap (λ (w : ℕ). w / 65536 % 512) c.word-w.ensures ∙ header_relations _ in
-    let said : 4 + c.word-w.result / 33554432 % 128 + 6 * (c.word-w.result / 65536 % 512) ≡ table_length (events_in c.args.image.now) (relations_in c.args.image.now) = ap₂ table_length (events) (relations) in
+    let said : 4 + c.word-w.result / 33554432 % 128 + 6 * (c.word-w.result / 65536 % 512) ≡ table_length (events_in c.args.image.now) (relations_in
+    c.args.image.now) = ap₂ table_length (events) (relations) in
     let exact : length c.args.image.now ≡ table_length (events_in c.args.image.now) (relations_in c.args.image.now) = c.if-image-events.false ∙ said in
     rw (events) (fit_few _ (fit), omega (arith, exact))
 
@@ -80,10 +82,13 @@ returns-then-classes-ne0 c =
     let fit : events_fit (events_in c.args.image.now) ≡ true = sym (judged) ∙ c.if-not-events_fit.false in
     let relations : c.word-w.result / 65536 % 512 ≡ relations_in c.args.image.now = ap (λ (w : ℕ). w / 65536 % 512) c.word-w.ensures ∙ header_relations _ in
     let few : relations_in c.args.image.now ≤ most_relations = rw (relations) at c.if-count-gt-MOST_RELATIONS.false in
-    let said : 4 + c.word-w.result / 33554432 % 128 + 6 * (c.word-w.result / 65536 % 512) ≡ table_length (events_in c.args.image.now) (relations_in c.args.image.now) = ap₂ table_length (events) (relations) in
+    let said : 4 + c.word-w.result / 33554432 % 128 + 6 * (c.word-w.result / 65536 % 512) ≡ table_length (events_in c.args.image.now) (relations_in
+    c.args.image.now) = ap₂ table_length (events) (relations) in
     let exact : length c.args.image.now ≡ table_length (events_in c.args.image.now) (relations_in c.args.image.now) = c.if-image-events.false ∙ said in
-    let classes : c.classes_in-classes.result ≡ classes_read c.args.image.now (events_in c.args.image.now) = c.classes_in-classes.ensures ∙ ap (classes_read c.args.image.now) (events) in
-    let number : first_of (events_in c.args.image.now) (class_number c.args.image.now) ≡ c.classes_in-classes.result.number = sym (ap (λ (k : Classes). k.number) (classes)) in
+    let classes : c.classes_in-classes.result ≡ classes_read c.args.image.now (events_in c.args.image.now) = c.classes_in-classes.ensures
+    ∙ ap (classes_read c.args.image.now) (events) in
+    let number : first_of (events_in c.args.image.now) (class_number c.args.image.now) ≡ c.classes_in-classes.result.number =
+    sym (ap (λ (k : Classes). k.number) (classes)) in
     c.refused-then-classes-ne0.ensures
     ∙ ends_classes _ c.if-image-lt4.false
     (clear) (fit)
@@ -104,17 +109,22 @@ returns c =
     let events : c.word-w.result / 33554432 % 128 ≡ events_in c.args.image.now = ap (λ (w : ℕ). w / 33554432 % 128) c.word-w.ensures ∙ header_events _ in
     let relations : c.word-w.result / 65536 % 512 ≡ relations_in c.args.image.now = ap (λ (w : ℕ). w / 65536 % 512) c.word-w.ensures ∙ header_relations _ in
     let firm : eqb (c.word-w.result / 32768 % 2) 1 ≡ firm_in c.args.image.now = ap (λ (w : ℕ). eqb (w / 32768 % 2) 1) c.word-w.ensures ∙ header_firm _ in
-    let classes : c.classes_in-classes.result ≡ classes_read c.args.image.now (events_in c.args.image.now) = c.classes_in-classes.ensures ∙ ap (classes_read c.args.image.now) (events) in
-    let number : first_of (events_in c.args.image.now) (class_number c.args.image.now) ≡ c.classes_in-classes.result.number = sym (ap (λ (k : Classes). k.number) (classes)) in
+    let classes : c.classes_in-classes.result ≡ classes_read c.args.image.now (events_in c.args.image.now) = c.classes_in-classes.ensures
+    ∙ ap (classes_read c.args.image.now) (events) in
+    let number : first_of (events_in c.args.image.now) (class_number c.args.image.now) ≡ c.classes_in-classes.result.number =
+    sym (ap (λ (k : Classes). k.number) (classes)) in
     let done : first_of (events_in c.args.image.now) (class_number c.args.image.now) ≡ 0 = number ∙ c.if-classes-ne0.false in
-    let controllable : c.classes_in-classes.result.controllable ≡ set_of (events_in c.args.image.now) (is_controllable_in c.args.image.now) = ap (λ (k : Classes). k.controllable) (classes) ∙ rw (done) in
-    let causable : c.classes_in-classes.result.causable ≡ set_of (events_in c.args.image.now) (is_causable_in c.args.image.now) = ap (λ (k : Classes). k.causable) (classes) ∙ rw (done) in
+    let controllable : c.classes_in-classes.result.controllable ≡ set_of (events_in c.args.image.now) (is_controllable_in c.args.image.now) =
+    ap (λ (k : Classes). k.controllable) (classes) ∙ rw (done) in
+    let causable : c.classes_in-classes.result.causable ≡ set_of (events_in c.args.image.now) (is_causable_in c.args.image.now) =
+    ap (λ (k : Classes). k.causable) (classes) ∙ rw (done) in
     let spare : c.word-w.result % 32768 ≡ header_spare c.args.image.now = ap (λ (w : ℕ). w % 32768) c.word-w.ensures ∙ header_spare_lem _ in
     let clear : header_spare c.args.image.now ≡ 0 = sym (spare) ∙ c.if-w-ne0.false in
     let judged : c.events_fit.result ≡ events_fit (events_in c.args.image.now) = c.events_fit.ensures ∙ ap events_fit (events) in
     let fit : events_fit (events_in c.args.image.now) ≡ true = sym (judged) ∙ c.if-not-events_fit.false in
     let few : relations_in c.args.image.now ≤ most_relations = rw (relations) at c.if-count-gt-MOST_RELATIONS.false in
-    let said : 4 + c.word-w.result / 33554432 % 128 + 6 * (c.word-w.result / 65536 % 512) ≡ table_length (events_in c.args.image.now) (relations_in c.args.image.now) = ap₂ table_length (events) (relations) in
+    let said : 4 + c.word-w.result / 33554432 % 128 + 6 * (c.word-w.result / 65536 % 512) ≡ table_length (events_in c.args.image.now) (relations_in
+    c.args.image.now) = ap₂ table_length (events) (relations) in
     let exact : length c.args.image.now ≡ table_length (events_in c.args.image.now) (relations_in c.args.image.now) = c.if-image-events.false ∙ said in
     rw (
       c.relations_in.ensures,

@@ -23,6 +23,7 @@ use Rattle.rules.specs.Check.{verdict}
 use Rattle.rules.specs.Guard.{order, goes_ahead, taken, taken_all, guarded}
 use Rattle.rules.specs.Trace.{last_happen_kind, plain_tick_kind, guarded_tick_kind, most_steps, wrong_step}
 use Rattle.rules.specs.Trace.{step_number, step_done, stepped, end_of, answers_of, trace_number, steps_in, bytes_number, run_bytes, run_bytes_answers}
+use Rattle.rules.specs.Shapes.Turned.{turned}
 use Rattle.rules.proofs.Laws.Tests.{join, or_left, or_right, neither}
 use Rattle.rules.proofs.Laws.Numbers.{if_done, both_done}
 use Rattle.rules.proofs.Laws.Counting.{length_places, places_at}
@@ -98,13 +99,7 @@ unfolding end_of
 end_judged t m [] h = h
 end_judged t m (s ∷ xs) h = end_judged t (stepped t m s) xs (stepped_judged t m s h)
 
--- What one step answers: its number, and the marking after it
-unfoldable pub turned : Table → Marking → ℕ → ℕ → MarkingAnswer
-turned t m kind event =
-    let s : Step = record { kind = kind; event = event } in
-    record { number = step_number t m s; marking = stepped t m s }
-
--- by its kind
+-- What one step answers, by its kind
 module _ (t : Table) (m : Marking) (event : ℕ) where
   pub turned_happen : (kind : ℕ) → kind ≤ last_happen_kind
       → record { number = happen_number t m event; marking = done (happen_number t m event) (effect t m event) m } ≡ turned t m kind event

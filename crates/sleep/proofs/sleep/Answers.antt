@@ -30,8 +30,10 @@ pub returns-then-ticks-gt-MOST_TICKS : goal.returns-then-ticks-gt-MOST_TICKS
 returns-then-ticks-gt-MOST_TICKS c =
     let number : c.then_marking-number.result ≡ judged c.args.t c.args.m = judged_by _ _ c.judge_table.ensures c.then_marking-number.ensures in
     record {
-      answer = (answers _ _ _ _ c.refused-then-ticks-gt-MOST_TICKS.ensures (too_many _ _ _ _ (sym (number) ∙ c.if-number-ne0.false) c.if-ticks-gt-MOST_TICKS.true)).0;
-      list = (answers _ _ _ _ c.refused-then-ticks-gt-MOST_TICKS.ensures (too_many _ _ _ _ (sym (number) ∙ c.if-number-ne0.false) c.if-ticks-gt-MOST_TICKS.true)).1;
+      answer = (answers _ _ _ _ c.refused-then-ticks-gt-MOST_TICKS.ensures (too_many _ _ _ _ (sym (number)
+          ∙ c.if-number-ne0.false) c.if-ticks-gt-MOST_TICKS.true)).0;
+      list = (answers _ _ _ _ c.refused-then-ticks-gt-MOST_TICKS.ensures (too_many _ _ _ _ (sym (number)
+          ∙ c.if-number-ne0.false) c.if-ticks-gt-MOST_TICKS.true)).1;
     }
 
 pub derived-requires : goal.derived-requires
@@ -75,18 +77,34 @@ pub has_room-requires : goal.has_room-requires
 has_room-requires c =
     let number : c.then_marking-number.result ≡ judged c.args.t c.args.m = judged_by _ _ c.judge_table.ensures c.then_marking-number.ensures in
     let granted : judged c.args.t c.args.m ≡ 0 = sym (number) ∙ c.if-number-ne0.false in
-    let words : WordsOf c.args.t c.derived.new.rows c.derived.new.links c.head_of-head.result = let made-words = c.derived.ensures in record { good = table_good _ _ (granted); derived = made-words.derived; linked = made-words.linked; headed = c.head_of-head.ensures } in
+    let words : WordsOf c.args.t c.derived.new.rows c.derived.new.links c.head_of-head.result = let made-words = c.derived.ensures in record {
+      good =
+          table_good _ _ (granted);
+      derived = made-words.derived;
+      linked = made-words.linked;
+      headed = c.head_of-head.ensures;
+    } in
     let few : c.args.ticks ≤ most_ticks = c.if-ticks-gt-MOST_TICKS.false in
-    let lent : (0 < c.head_of-head.result.events) × (c.head_of-head.result.events ≤ 64) × (length c.derived.new.rows ≡ 640) × (length c.derived.new.links ≡ 256) × (c.args.ticks ≤ most_ticks) = let w = words in let d = granted in (rw w.headed (some_events _ _ d), rw w.headed w.good.few_events, w.derived.size, w.linked.size, few) in
+    let lent : (0 < c.head_of-head.result.events) × (c.head_of-head.result.events ≤ 64) × (length c.derived.new.rows ≡ 640)
+    × (length c.derived.new.links ≡ 256) × (c.args.ticks ≤ most_ticks) = let w = words in let d = granted in
+    (rw w.headed (some_events _ _ d), rw w.headed w.good.few_events, w.derived.size, w.linked.size, few) in
     lent
 
 pub pass-count-requires : goal.pass-count-requires
 pass-count-requires c =
     let number : c.then_marking-number.result ≡ judged c.args.t c.args.m = judged_by _ _ c.judge_table.ensures c.then_marking-number.ensures in
     let granted : judged c.args.t c.args.m ≡ 0 = sym (number) ∙ c.if-number-ne0.false in
-    let words : WordsOf c.args.t c.derived.new.rows c.derived.new.links c.head_of-head.result = let made-words = c.derived.ensures in record { good = table_good _ _ (granted); derived = made-words.derived; linked = made-words.linked; headed = c.head_of-head.ensures } in
+    let words : WordsOf c.args.t c.derived.new.rows c.derived.new.links c.head_of-head.result = let made-words = c.derived.ensures in record {
+      good =
+          table_good _ _ (granted);
+      derived = made-words.derived;
+      linked = made-words.linked;
+      headed = c.head_of-head.ensures;
+    } in
     let few : c.args.ticks ≤ most_ticks = c.if-ticks-gt-MOST_TICKS.false in
-    let lent : (0 < c.head_of-head.result.events) × (c.head_of-head.result.events ≤ 64) × (length c.derived.new.rows ≡ 640) × (length c.derived.new.links ≡ 256) × (c.args.ticks ≤ most_ticks) = let w = words in let d = granted in (rw w.headed (some_events _ _ d), rw w.headed w.good.few_events, w.derived.size, w.linked.size, few) in
+    let lent : (0 < c.head_of-head.result.events) × (c.head_of-head.result.events ≤ 64) × (length c.derived.new.rows ≡ 640)
+    × (length c.derived.new.links ≡ 256) × (c.args.ticks ≤ most_ticks) = let w = words in let d = granted in
+    (rw w.headed (some_events _ _ d), rw w.headed w.good.few_events, w.derived.size, w.linked.size, few) in
     lent
 
 pub give-after-requires : goal.give-after-requires
@@ -100,9 +118,16 @@ returns-in-Refused c =
     let number : c.then_marking-number.result ≡ judged c.args.t c.args.m = judged_by _ _ c.judge_table.ensures c.then_marking-number.ensures in
     let granted : judged c.args.t c.args.m ≡ 0 = sym (number) ∙ c.if-number-ne0.false in
     let few : c.args.ticks ≤ most_ticks = c.if-ticks-gt-MOST_TICKS.false in
-    let words : WordsOf c.args.t c.derived.new.rows c.derived.new.links c.head_of-head.result = let made-words = c.derived.ensures in record { good = table_good _ _ (granted); derived = made-words.derived; linked = made-words.linked; headed = c.head_of-head.ensures } in
+    let words : WordsOf c.args.t c.derived.new.rows c.derived.new.links c.head_of-head.result = let made-words = c.derived.ensures in record {
+      good =
+          table_good _ _ (granted);
+      derived = made-words.derived;
+      linked = made-words.linked;
+      headed = c.head_of-head.ensures;
+    } in
     let stands : Stands c.args.t.events (unused c.args.m) 0 c.lay.new.sets c.lay.new.columns c.args.m = laid_out _ _ (granted) c.lay.ensures in
-    let told : let a = c.args in c.verdict-verdict.result ≡ verdict a.t a.m = let a = c.args in let w = words in c.verdict-verdict.ensures ∙ c.found-found.ensures a.t (unused a.m) 0 _ a.m w.good w.derived w.headed (stands) in
+    let told : let a = c.args in c.verdict-verdict.result ≡ verdict a.t a.m = let a = c.args in let w = words in c.verdict-verdict.ensures
+    ∙ c.found-found.ensures a.t (unused a.m) 0 _ a.m w.good w.derived w.headed (stands) in
     record {
       answer = (answers _ _ _ _ c.refused-in-Refused.ensures (never _ _ _ _ (granted) (few) (sym (told) ∙ c.in-Refused.is))).0;
       list = (answers _ _ _ _ c.refused-in-Refused.ensures (never _ _ _ _ (granted) (few) (sym (told) ∙ c.in-Refused.is))).1;
@@ -113,9 +138,16 @@ returns-in-Rejects c =
     let number : c.then_marking-number.result ≡ judged c.args.t c.args.m = judged_by _ _ c.judge_table.ensures c.then_marking-number.ensures in
     let granted : judged c.args.t c.args.m ≡ 0 = sym (number) ∙ c.if-number-ne0.false in
     let few : c.args.ticks ≤ most_ticks = c.if-ticks-gt-MOST_TICKS.false in
-    let words : WordsOf c.args.t c.derived.new.rows c.derived.new.links c.head_of-head.result = let made-words = c.derived.ensures in record { good = table_good _ _ (granted); derived = made-words.derived; linked = made-words.linked; headed = c.head_of-head.ensures } in
+    let words : WordsOf c.args.t c.derived.new.rows c.derived.new.links c.head_of-head.result = let made-words = c.derived.ensures in record {
+      good =
+          table_good _ _ (granted);
+      derived = made-words.derived;
+      linked = made-words.linked;
+      headed = c.head_of-head.ensures;
+    } in
     let stands : Stands c.args.t.events (unused c.args.m) 0 c.lay.new.sets c.lay.new.columns c.args.m = laid_out _ _ (granted) c.lay.ensures in
-    let told : let a = c.args in c.verdict-verdict.result ≡ verdict a.t a.m = let a = c.args in let w = words in c.verdict-verdict.ensures ∙ c.found-found.ensures a.t (unused a.m) 0 _ a.m w.good w.derived w.headed (stands) in
+    let told : let a = c.args in c.verdict-verdict.result ≡ verdict a.t a.m = let a = c.args in let w = words in c.verdict-verdict.ensures
+    ∙ c.found-found.ensures a.t (unused a.m) 0 _ a.m w.good w.derived w.headed (stands) in
     record {
       answer = (answers _ _ _ _ c.refused-in-Rejects.ensures (rejected _ _ _ _ (granted) (few) (sym (told) ∙ c.in-Rejects.is))).0;
       list = (answers _ _ _ _ c.refused-in-Rejects.ensures (rejected _ _ _ _ (granted) (few) (sym (told) ∙ c.in-Rejects.is))).1;
@@ -128,12 +160,20 @@ pub returns-then-has_room : goal.returns-then-has_room
 returns-then-has_room c =
     let number : c.then_marking-number.result ≡ judged c.args.t c.args.m = judged_by _ _ c.judge_table.ensures c.then_marking-number.ensures in
     let granted : judged c.args.t c.args.m ≡ 0 = sym (number) ∙ c.if-number-ne0.false in
-    let words : WordsOf c.args.t c.derived.new.rows c.derived.new.links c.head_of-head.result = let made-words = c.derived.ensures in record { good = table_good _ _ (granted); derived = made-words.derived; linked = made-words.linked; headed = c.head_of-head.ensures } in
+    let words : WordsOf c.args.t c.derived.new.rows c.derived.new.links c.head_of-head.result = let made-words = c.derived.ensures in record {
+      good =
+          table_good _ _ (granted);
+      derived = made-words.derived;
+      linked = made-words.linked;
+      headed = c.head_of-head.ensures;
+    } in
     let stands : Stands c.args.t.events (unused c.args.m) 0 c.lay.new.sets c.lay.new.columns c.args.m = laid_out _ _ (granted) c.lay.ensures in
     let few : c.args.ticks ≤ most_ticks = c.if-ticks-gt-MOST_TICKS.false in
-    let told : let a = c.args in c.verdict-verdict.result ≡ verdict a.t a.m = let a = c.args in let w = words in c.verdict-verdict.ensures ∙ c.found-found.ensures a.t (unused a.m) 0 _ a.m w.good w.derived w.headed (stands) in
+    let told : let a = c.args in c.verdict-verdict.result ≡ verdict a.t a.m = let a = c.args in let w = words in c.verdict-verdict.ensures
+    ∙ c.found-found.ensures a.t (unused a.m) 0 _ a.m w.good w.derived w.headed (stands) in
     let accepts : let a = c.args in verdict a.t a.m ≡ Accepts = sym (told) ∙ c.in-Accepts.is in
-    let room : let a = c.args in c.has_room.result ≡ leb (length (slept_caused a.t a.m a.ticks)) (length a.list.now) = c.has_room.ensures _ _ _ (words) (passing_start [] (stands)) in
+    let room : let a = c.args in c.has_room.result ≡ leb (length (slept_caused a.t a.m a.ticks)) (length a.list.now) =
+    c.has_room.ensures _ _ _ (words) (passing_start [] (stands)) in
     let a = c.args in
     let p = c.pass-count.ensures.passed _ _ _ a.list.now (words) (passing_start a.list.now (stands)) in record {
       answer = (whole _ _ _ _ (granted) (few) (accepts) (sym (room) ∙ c.if-has_room.true)
@@ -147,11 +187,19 @@ returns-else-has_room c =
     let number : c.then_marking-number.result ≡ judged c.args.t c.args.m = judged_by _ _ c.judge_table.ensures c.then_marking-number.ensures in
     let granted : judged c.args.t c.args.m ≡ 0 = sym (number) ∙ c.if-number-ne0.false in
     let few : c.args.ticks ≤ most_ticks = c.if-ticks-gt-MOST_TICKS.false in
-    let words : WordsOf c.args.t c.derived.new.rows c.derived.new.links c.head_of-head.result = let made-words = c.derived.ensures in record { good = table_good _ _ (granted); derived = made-words.derived; linked = made-words.linked; headed = c.head_of-head.ensures } in
+    let words : WordsOf c.args.t c.derived.new.rows c.derived.new.links c.head_of-head.result = let made-words = c.derived.ensures in record {
+      good =
+          table_good _ _ (granted);
+      derived = made-words.derived;
+      linked = made-words.linked;
+      headed = c.head_of-head.ensures;
+    } in
     let stands : Stands c.args.t.events (unused c.args.m) 0 c.lay.new.sets c.lay.new.columns c.args.m = laid_out _ _ (granted) c.lay.ensures in
-    let told : let a = c.args in c.verdict-verdict.result ≡ verdict a.t a.m = let a = c.args in let w = words in c.verdict-verdict.ensures ∙ c.found-found.ensures a.t (unused a.m) 0 _ a.m w.good w.derived w.headed (stands) in
+    let told : let a = c.args in c.verdict-verdict.result ≡ verdict a.t a.m = let a = c.args in let w = words in c.verdict-verdict.ensures
+    ∙ c.found-found.ensures a.t (unused a.m) 0 _ a.m w.good w.derived w.headed (stands) in
     let accepts : let a = c.args in verdict a.t a.m ≡ Accepts = sym (told) ∙ c.in-Accepts.is in
-    let room : let a = c.args in c.has_room.result ≡ leb (length (slept_caused a.t a.m a.ticks)) (length a.list.now) = c.has_room.ensures _ _ _ (words) (passing_start [] (stands)) in
+    let room : let a = c.args in c.has_room.result ≡ leb (length (slept_caused a.t a.m a.ticks)) (length a.list.now) =
+    c.has_room.ensures _ _ _ (words) (passing_start [] (stands)) in
     record {
       answer = (answers _ _ _ _ c.refused-else-has_room.ensures (short _ _ _ _ (granted) (few) (accepts) (sym (room) ∙ c.if-has_room.false))).0;
       list = (answers _ _ _ _ c.refused-else-has_room.ensures (short _ _ _ _ (granted) (few) (accepts) (sym (room) ∙ c.if-has_room.false))).1;

@@ -10,7 +10,8 @@ use Rattle.acts.proofs.effect.answered.Given as goal
 
 abbrev pub invariant-loop-next : goal.invariant-loop-next
 invariant-loop-next l =
-    (t : Table) (e : ℕ) → GoodTable t → Own t t.count e l.rows l.at l.links → length l.initial.columns ≡ 192 → Answering t e l.clock l.kept l.initial.columns l.next l.dated l.columns
+    (t : Table) (e : ℕ) → GoodTable t → Own t t.count e l.rows l.at l.links → length l.initial.columns ≡ 192
+    → Answering t e l.clock l.kept l.initial.columns l.next l.dated l.columns
 
 abbrev pub decreases-loop-next : goal.decreases-loop-next
 decreases-loop-next l = l.next

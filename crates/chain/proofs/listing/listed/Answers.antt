@@ -25,7 +25,12 @@ returns c =
     let e = c.args.event in
     let list = c.args.list.now in
     let fits : length (chain t m e) ≤ length list =
-    omega (arith, chain_fits t m c.requires.good.0.table_good e c.requires.good.1, c.requires.good.0.table_good.few_relations, c.requires.most_relations_in_bounds) in
+    omega (
+      arith,
+      chain_fits t m c.requires.good.0.table_good e c.requires.good.1,
+      c.requires.good.0.table_good.few_relations,
+      c.requires.most_relations_in_bounds,
+    ) in
     let whole =
     c.visit_event-end.ensures.visits t m c.words.ensures.words_of (not_false _ c.if-not-r.false) 64 (omega arith)
     ∙ carried_whole (visit t m 64 0 e 0) 0 list fits in record {

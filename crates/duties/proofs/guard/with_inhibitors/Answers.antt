@@ -40,14 +40,16 @@ overflow_sub-unopened c =
 pub loop-unopened-smaller : goal.loop-unopened-smaller
 loop-unopened-smaller c =
     let small : c.lowest-e.result < 64 = reaching_small _ _ c.loop-unopened.invariant c.loop-unopened-test.true _ c.lowest-e.ensures in
-    let new : (x : ℕ) → has c.without-more.result x ≡ (has (followed_in c.args.rows.now c.args.missing c.args.pending c.lowest-e.result) x && not (has c.loop-unopened.found x)) = λ x. c.without-more.ensures x ∙ ap (λ (w : ℕ). has w x && not (has c.loop-unopened.found x)) c.followed.ensures in
+    let new : (x : ℕ) → has c.without-more.result x ≡ (has (followed_in c.args.rows.now c.args.missing c.args.pending c.lowest-e.result) x && not (has
+    c.loop-unopened.found x)) = λ x. c.without-more.ensures x ∙ ap (λ (w : ℕ). has w x && not (has c.loop-unopened.found x)) c.followed.ensures in
     rw (one_shifted _ (small))
     (reaching_less _ _ c.loop-unopened.invariant c.loop-unopened-test.true _ c.lowest-e.ensures _ c.without-more.type_inv (new))
 
 pub loop-unopened-preserved : goal.loop-unopened-preserved
 loop-unopened-preserved c =
     let small : c.lowest-e.result < 64 = reaching_small _ _ c.loop-unopened.invariant c.loop-unopened-test.true _ c.lowest-e.ensures in
-    let new : (x : ℕ) → has c.without-more.result x ≡ (has (followed_in c.args.rows.now c.args.missing c.args.pending c.lowest-e.result) x && not (has c.loop-unopened.found x)) = λ x. c.without-more.ensures x ∙ ap (λ (w : ℕ). has w x && not (has c.loop-unopened.found x)) c.followed.ensures in
+    let new : (x : ℕ) → has c.without-more.result x ≡ (has (followed_in c.args.rows.now c.args.missing c.args.pending c.lowest-e.result) x && not (has
+    c.loop-unopened.found x)) = λ x. c.without-more.ensures x ∙ ap (λ (w : ℕ). has w x && not (has c.loop-unopened.found x)) c.followed.ensures in
     rw (one_shifted _ (small))
     (reaching_more _ _ c.loop-unopened.invariant c.loop-unopened-test.true _ c.lowest-e.ensures _ c.without-more.type_inv (new))
 

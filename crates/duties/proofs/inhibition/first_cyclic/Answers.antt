@@ -43,7 +43,9 @@ pub returns-then-cyclic : goal.returns-then-cyclic
 unfolding on_cycle
 returns-then-cyclic c =
     let event : Found (has c.loop-left.left) 64 c.lowest-e.result = lowest_found _ c.loop-left.invariant.0 c.loop-left-test.true _ c.lowest-e.ensures in
-    let told : (t : Table) → GoodTable t → Followed t t.count c.args.words.now → c.args.set < 2 ^ t.events → on_cycle t c.args.set c.lowest-e.result ≡ c.cyclic.result = λ t g d f. let inside = (c.loop-left.invariant.1 t g d f).within _ (event).holds in rw inside (sym (c.cyclic.ensures t g d (has_below t.events _ _ f inside))) in
+    let told : (t : Table) → GoodTable t → Followed t t.count c.args.words.now → c.args.set < 2 ^ t.events
+    → on_cycle t c.args.set c.lowest-e.result ≡ c.cyclic.result = λ t g d f. let inside =
+    (c.loop-left.invariant.1 t g d f).within _ (event).holds in rw inside (sym (c.cyclic.ensures t g d (has_below t.events _ _ f inside))) in
     λ t g d f.
     searched_here (c.loop-left.invariant.1 t g d f) c.loop-left.invariant.0 c.loop-left-test.true _ c.lowest-e.ensures
     (told t g d f ∙ c.if-cyclic.true)
@@ -68,7 +70,9 @@ pub loop-left-preserved : goal.loop-left-preserved
 unfolding on_cycle
 loop-left-preserved c =
     let event : Found (has c.loop-left.left) 64 c.lowest-e.result = lowest_found _ c.loop-left.invariant.0 c.loop-left-test.true _ c.lowest-e.ensures in
-    let told : (t : Table) → GoodTable t → Followed t t.count c.args.words.now → c.args.set < 2 ^ t.events → on_cycle t c.args.set c.lowest-e.result ≡ c.cyclic.result = λ t g d f. let inside = (c.loop-left.invariant.1 t g d f).within _ (event).holds in rw inside (sym (c.cyclic.ensures t g d (has_below t.events _ _ f inside))) in
+    let told : (t : Table) → GoodTable t → Followed t t.count c.args.words.now → c.args.set < 2 ^ t.events
+    → on_cycle t c.args.set c.lowest-e.result ≡ c.cyclic.result = λ t g d f. let inside =
+    (c.loop-left.invariant.1 t g d f).within _ (event).holds in rw inside (sym (c.cyclic.ensures t g d (has_below t.events _ _ f inside))) in
     rw (one_shifted _ (event).small) (
       omega (arith, c.loop-left.invariant.0),
       λ t g d f.

@@ -19,7 +19,8 @@ abbrev pub invariant-loop-left : goal.invariant-loop-left
 invariant-loop-left l =
     (l.left < 2 ^ 64) × (length l.waiting ≡ 64)
     × ((x : ℕ) → (has l.found x || (has l.left x && is_free l.rows l.set x)) ≡ ready_in l.rows l.set x)
-    × ((x : ℕ) → x < 64 → (e : ℕ) → (has (get_or l.waiting x 0) e || (has l.left e && waits_for l.rows l.set x e)) ≡ (has l.set e && waits_for l.rows l.set x e))
+    × ((x : ℕ) → x < 64 → (e : ℕ) → (has (get_or l.waiting x 0) e || (has l.left e && waits_for l.rows l.set x e)) ≡ (has l.set e && waits_for l.rows
+    l.set x e))
 
 abbrev pub decreases-loop-left : goal.decreases-loop-left
 decreases-loop-left l = l.left

@@ -24,7 +24,8 @@ led_to-requires c = record {
 
 pub returns-then-led_to-ne0 : goal.returns-then-led_to-ne0
 returns-then-led_to-ne0 c =
-    let past_two : (t : Table) → Given t c.args.rows.now c.args.words.now c.args.head c.args.closed → verdict_of t c.args.closed ≡ after_two t c.args.closed = λ t g. two_none g _ c.without-uncausable.ensures c.if-uncausable-ne0.false in
+    let past_two : (t : Table) → Given t c.args.rows.now c.args.words.now c.args.head c.args.closed
+    → verdict_of t c.args.closed ≡ after_two t c.args.closed = λ t g. two_none g _ c.without-uncausable.ensures c.if-uncausable-ne0.false in
     λ t good made followed q fits.
     let g = given good made followed q fits in
     three_at g _ c.led_to.ensures c.if-led_to-ne0.true _ refl ∙ sym (past_two t g)
@@ -32,9 +33,12 @@ returns-then-led_to-ne0 c =
 -- 4
 pub returns-then-cyclic-lt64 : goal.returns-then-cyclic-lt64
 returns-then-cyclic-lt64 c =
-    let cyclic_made : (t : Table) → Given t c.args.rows.now c.args.words.now c.args.head c.args.closed → c.first_cyclic-cyclic.result ≡ lowest 64 (on_cycle t c.args.closed) = λ t g. c.first_cyclic-cyclic.ensures t g.good g.followed g.fits in
-    let past_two : (t : Table) → Given t c.args.rows.now c.args.words.now c.args.head c.args.closed → verdict_of t c.args.closed ≡ after_two t c.args.closed = λ t g. two_none g _ c.without-uncausable.ensures c.if-uncausable-ne0.false in
-    let past_three : (t : Table) → Given t c.args.rows.now c.args.words.now c.args.head c.args.closed → verdict_of t c.args.closed ≡ after_three t c.args.closed = λ t g. past_two t g ∙ three_none g _ c.led_to.ensures c.if-led_to-ne0.false in
+    let cyclic_made : (t : Table) → Given t c.args.rows.now c.args.words.now c.args.head c.args.closed
+    → c.first_cyclic-cyclic.result ≡ lowest 64 (on_cycle t c.args.closed) = λ t g. c.first_cyclic-cyclic.ensures t g.good g.followed g.fits in
+    let past_two : (t : Table) → Given t c.args.rows.now c.args.words.now c.args.head c.args.closed
+    → verdict_of t c.args.closed ≡ after_two t c.args.closed = λ t g. two_none g _ c.without-uncausable.ensures c.if-uncausable-ne0.false in
+    let past_three : (t : Table) → Given t c.args.rows.now c.args.words.now c.args.head c.args.closed
+    → verdict_of t c.args.closed ≡ after_three t c.args.closed = λ t g. past_two t g ∙ three_none g _ c.led_to.ensures c.if-led_to-ne0.false in
     λ t good made followed q fits.
     let g = given good made followed q fits in
     four_at g _ (cyclic_made t g) c.if-cyclic-lt64.true ∙ sym (past_three t g)
@@ -60,10 +64,14 @@ led_to-requires-3 c = record {
 
 pub returns-then-answers-milestones-ne0 : goal.returns-then-answers-milestones-ne0
 returns-then-answers-milestones-ne0 c =
-    let past_two : (t : Table) → Given t c.args.rows.now c.args.words.now c.args.head c.args.closed → verdict_of t c.args.closed ≡ after_two t c.args.closed = λ t g. two_none g _ c.without-uncausable.ensures c.if-uncausable-ne0.false in
-    let past_three : (t : Table) → Given t c.args.rows.now c.args.words.now c.args.head c.args.closed → verdict_of t c.args.closed ≡ after_three t c.args.closed = λ t g. past_two t g ∙ three_none g _ c.led_to.ensures c.if-led_to-ne0.false in
-    let cyclic_made : (t : Table) → Given t c.args.rows.now c.args.words.now c.args.head c.args.closed → c.first_cyclic-cyclic.result ≡ lowest 64 (on_cycle t c.args.closed) = λ t g. c.first_cyclic-cyclic.ensures t g.good g.followed g.fits in
-    let past_four : (t : Table) → Given t c.args.rows.now c.args.words.now c.args.head c.args.closed → verdict_of t c.args.closed ≡ after_four t c.args.closed = λ t g. past_three t g ∙ four_none g _ (cyclic_made t g) c.if-cyclic-lt64.false in
+    let past_two : (t : Table) → Given t c.args.rows.now c.args.words.now c.args.head c.args.closed
+    → verdict_of t c.args.closed ≡ after_two t c.args.closed = λ t g. two_none g _ c.without-uncausable.ensures c.if-uncausable-ne0.false in
+    let past_three : (t : Table) → Given t c.args.rows.now c.args.words.now c.args.head c.args.closed
+    → verdict_of t c.args.closed ≡ after_three t c.args.closed = λ t g. past_two t g ∙ three_none g _ c.led_to.ensures c.if-led_to-ne0.false in
+    let cyclic_made : (t : Table) → Given t c.args.rows.now c.args.words.now c.args.head c.args.closed
+    → c.first_cyclic-cyclic.result ≡ lowest 64 (on_cycle t c.args.closed) = λ t g. c.first_cyclic-cyclic.ensures t g.good g.followed g.fits in
+    let past_four : (t : Table) → Given t c.args.rows.now c.args.words.now c.args.head c.args.closed
+    → verdict_of t c.args.closed ≡ after_four t c.args.closed = λ t g. past_three t g ∙ four_none g _ (cyclic_made t g) c.if-cyclic-lt64.false in
     λ t good made followed q fits.
     let g = given good made followed q fits in
     five_at g _ _ _ c.led_to-milestones.ensures c.led_to-2.ensures c.led_to-3.ensures c.if-answers-milestones-ne0.true _ refl
@@ -78,22 +86,34 @@ led_to-requires-4 c = record {
 
 pub returns-then-led_to-closed-ne0 : goal.returns-then-led_to-closed-ne0
 returns-then-led_to-closed-ne0 c =
-    let past_two : (t : Table) → Given t c.args.rows.now c.args.words.now c.args.head c.args.closed → verdict_of t c.args.closed ≡ after_two t c.args.closed = λ t g. two_none g _ c.without-uncausable.ensures c.if-uncausable-ne0.false in
-    let past_three : (t : Table) → Given t c.args.rows.now c.args.words.now c.args.head c.args.closed → verdict_of t c.args.closed ≡ after_three t c.args.closed = λ t g. past_two t g ∙ three_none g _ c.led_to.ensures c.if-led_to-ne0.false in
-    let cyclic_made : (t : Table) → Given t c.args.rows.now c.args.words.now c.args.head c.args.closed → c.first_cyclic-cyclic.result ≡ lowest 64 (on_cycle t c.args.closed) = λ t g. c.first_cyclic-cyclic.ensures t g.good g.followed g.fits in
-    let past_four : (t : Table) → Given t c.args.rows.now c.args.words.now c.args.head c.args.closed → verdict_of t c.args.closed ≡ after_four t c.args.closed = λ t g. past_three t g ∙ four_none g _ (cyclic_made t g) c.if-cyclic-lt64.false in
-    let past_five : (t : Table) → Given t c.args.rows.now c.args.words.now c.args.head c.args.closed → verdict_of t c.args.closed ≡ after_five t c.args.closed = λ t g. past_four t g ∙ five_none g _ _ _ c.led_to-milestones.ensures c.led_to-2.ensures c.led_to-3.ensures c.if-answers-milestones-ne0.false in
+    let past_two : (t : Table) → Given t c.args.rows.now c.args.words.now c.args.head c.args.closed
+    → verdict_of t c.args.closed ≡ after_two t c.args.closed = λ t g. two_none g _ c.without-uncausable.ensures c.if-uncausable-ne0.false in
+    let past_three : (t : Table) → Given t c.args.rows.now c.args.words.now c.args.head c.args.closed
+    → verdict_of t c.args.closed ≡ after_three t c.args.closed = λ t g. past_two t g ∙ three_none g _ c.led_to.ensures c.if-led_to-ne0.false in
+    let cyclic_made : (t : Table) → Given t c.args.rows.now c.args.words.now c.args.head c.args.closed
+    → c.first_cyclic-cyclic.result ≡ lowest 64 (on_cycle t c.args.closed) = λ t g. c.first_cyclic-cyclic.ensures t g.good g.followed g.fits in
+    let past_four : (t : Table) → Given t c.args.rows.now c.args.words.now c.args.head c.args.closed
+    → verdict_of t c.args.closed ≡ after_four t c.args.closed = λ t g. past_three t g ∙ four_none g _ (cyclic_made t g) c.if-cyclic-lt64.false in
+    let past_five : (t : Table) → Given t c.args.rows.now c.args.words.now c.args.head c.args.closed
+    → verdict_of t c.args.closed ≡ after_five t c.args.closed = λ t g. past_four t g
+    ∙ five_none g _ _ _ c.led_to-milestones.ensures c.led_to-2.ensures c.led_to-3.ensures c.if-answers-milestones-ne0.false in
     λ t good made followed q fits.
     let g = given good made followed q fits in
     six_at g _ c.led_to-4.ensures c.if-led_to-closed-ne0.true _ refl ∙ sym (past_five t g)
 
 pub returns : goal.returns
 returns c =
-    let past_two : (t : Table) → Given t c.args.rows.now c.args.words.now c.args.head c.args.closed → verdict_of t c.args.closed ≡ after_two t c.args.closed = λ t g. two_none g _ c.without-uncausable.ensures c.if-uncausable-ne0.false in
-    let past_three : (t : Table) → Given t c.args.rows.now c.args.words.now c.args.head c.args.closed → verdict_of t c.args.closed ≡ after_three t c.args.closed = λ t g. past_two t g ∙ three_none g _ c.led_to.ensures c.if-led_to-ne0.false in
-    let cyclic_made : (t : Table) → Given t c.args.rows.now c.args.words.now c.args.head c.args.closed → c.first_cyclic-cyclic.result ≡ lowest 64 (on_cycle t c.args.closed) = λ t g. c.first_cyclic-cyclic.ensures t g.good g.followed g.fits in
-    let past_four : (t : Table) → Given t c.args.rows.now c.args.words.now c.args.head c.args.closed → verdict_of t c.args.closed ≡ after_four t c.args.closed = λ t g. past_three t g ∙ four_none g _ (cyclic_made t g) c.if-cyclic-lt64.false in
-    let past_five : (t : Table) → Given t c.args.rows.now c.args.words.now c.args.head c.args.closed → verdict_of t c.args.closed ≡ after_five t c.args.closed = λ t g. past_four t g ∙ five_none g _ _ _ c.led_to-milestones.ensures c.led_to-2.ensures c.led_to-3.ensures c.if-answers-milestones-ne0.false in
+    let past_two : (t : Table) → Given t c.args.rows.now c.args.words.now c.args.head c.args.closed
+    → verdict_of t c.args.closed ≡ after_two t c.args.closed = λ t g. two_none g _ c.without-uncausable.ensures c.if-uncausable-ne0.false in
+    let past_three : (t : Table) → Given t c.args.rows.now c.args.words.now c.args.head c.args.closed
+    → verdict_of t c.args.closed ≡ after_three t c.args.closed = λ t g. past_two t g ∙ three_none g _ c.led_to.ensures c.if-led_to-ne0.false in
+    let cyclic_made : (t : Table) → Given t c.args.rows.now c.args.words.now c.args.head c.args.closed
+    → c.first_cyclic-cyclic.result ≡ lowest 64 (on_cycle t c.args.closed) = λ t g. c.first_cyclic-cyclic.ensures t g.good g.followed g.fits in
+    let past_four : (t : Table) → Given t c.args.rows.now c.args.words.now c.args.head c.args.closed
+    → verdict_of t c.args.closed ≡ after_four t c.args.closed = λ t g. past_three t g ∙ four_none g _ (cyclic_made t g) c.if-cyclic-lt64.false in
+    let past_five : (t : Table) → Given t c.args.rows.now c.args.words.now c.args.head c.args.closed
+    → verdict_of t c.args.closed ≡ after_five t c.args.closed = λ t g. past_four t g
+    ∙ five_none g _ _ _ c.led_to-milestones.ensures c.led_to-2.ensures c.led_to-3.ensures c.if-answers-milestones-ne0.false in
     λ t good made followed q fits.
     let g = given good made followed q fits in
     sym (past_five t g ∙ six_none g _ c.led_to-4.ensures c.if-led_to-closed-ne0.false)

@@ -27,7 +27,8 @@ loop-left-init c =
 
 pub inhibitors-requires : goal.inhibitors-requires
 inhibitors-requires c =
-    let event_left : Found (has c.loop-left.left) 64 c.lowest-e.result = lowest_found c.loop-left.left (omega (arith, c.loop-left.invariant.0)) c.loop-left-test.true c.lowest-e.result c.lowest-e.ensures in
+    let event_left : Found (has c.loop-left.left) 64 c.lowest-e.result =
+    lowest_found c.loop-left.left (omega (arith, c.loop-left.invariant.0)) c.loop-left-test.true c.lowest-e.result c.lowest-e.ensures in
     record {
       rows_len = c.requires;
       e_bound = (event_left).small;
@@ -35,29 +36,34 @@ inhibitors-requires c =
 
 pub adding-found-requires : goal.adding-found-requires
 adding-found-requires c =
-    let event_left : Found (has c.loop-left.left) 64 c.lowest-e.result = lowest_found c.loop-left.left (omega (arith, c.loop-left.invariant.0)) c.loop-left-test.true c.lowest-e.result c.lowest-e.ensures in
+    let event_left : Found (has c.loop-left.left) 64 c.lowest-e.result =
+    lowest_found c.loop-left.left (omega (arith, c.loop-left.invariant.0)) c.loop-left-test.true c.lowest-e.result c.lowest-e.ensures in
     (event_left).small
 
 pub overflow_shl-left : goal.overflow_shl-left
 overflow_shl-left c =
-    let event_left : Found (has c.loop-left.left) 64 c.lowest-e.result = lowest_found c.loop-left.left (omega (arith, c.loop-left.invariant.0)) c.loop-left-test.true c.lowest-e.result c.lowest-e.ensures in
+    let event_left : Found (has c.loop-left.left) 64 c.lowest-e.result =
+    lowest_found c.loop-left.left (omega (arith, c.loop-left.invariant.0)) c.loop-left-test.true c.lowest-e.result c.lowest-e.ensures in
     (event_left).small
 
 pub overflow_sub-left : goal.overflow_sub-left
 overflow_sub-left c =
-    let event_left : Found (has c.loop-left.left) 64 c.lowest-e.result = lowest_found c.loop-left.left (omega (arith, c.loop-left.invariant.0)) c.loop-left-test.true c.lowest-e.result c.lowest-e.ensures in
+    let event_left : Found (has c.loop-left.left) 64 c.lowest-e.result =
+    lowest_found c.loop-left.left (omega (arith, c.loop-left.invariant.0)) c.loop-left-test.true c.lowest-e.result c.lowest-e.ensures in
     let p = event_left in rw (one_shifted c.lowest-e.result p.small) (worth_le _ _ p.holds)
 
 pub loop-left-smaller : goal.loop-left-smaller
 loop-left-smaller c =
-    let event_left : Found (has c.loop-left.left) 64 c.lowest-e.result = lowest_found c.loop-left.left (omega (arith, c.loop-left.invariant.0)) c.loop-left-test.true c.lowest-e.result c.lowest-e.ensures in
+    let event_left : Found (has c.loop-left.left) 64 c.lowest-e.result =
+    lowest_found c.loop-left.left (omega (arith, c.loop-left.invariant.0)) c.loop-left-test.true c.lowest-e.result c.lowest-e.ensures in
     let p = event_left in
     let e = c.lowest-e.result in
     rw (one_shifted e p.small) (omega (arith, worth_le _ _ p.holds, pow_pos e))
 
 pub loop-left-preserved : goal.loop-left-preserved
 loop-left-preserved c =
-    let event_left : Found (has c.loop-left.left) 64 c.lowest-e.result = lowest_found c.loop-left.left (omega (arith, c.loop-left.invariant.0)) c.loop-left-test.true c.lowest-e.result c.lowest-e.ensures in
+    let event_left : Found (has c.loop-left.left) 64 c.lowest-e.result =
+    lowest_found c.loop-left.left (omega (arith, c.loop-left.invariant.0)) c.loop-left-test.true c.lowest-e.result c.lowest-e.ensures in
     let rows = c.args.rows.now in
     let e = c.lowest-e.result in
     let p = event_left in

@@ -19,43 +19,51 @@ lowest-e-requires c = tt
 
 pub overflow_mul-found : goal.overflow_mul-found
 overflow_mul-found c =
-    let event_left : Found (has c.loop-left.left) 64 c.lowest-e.result = lowest_found c.loop-left.left (omega (arith, c.loop-left.invariant.0)) c.loop-left-test.true c.lowest-e.result c.lowest-e.ensures in
+    let event_left : Found (has c.loop-left.left) 64 c.lowest-e.result =
+    lowest_found c.loop-left.left (omega (arith, c.loop-left.invariant.0)) c.loop-left-test.true c.lowest-e.result c.lowest-e.ensures in
     omega (arith, (event_left).small)
 
 pub overflow_add-found : goal.overflow_add-found
 overflow_add-found c =
-    let event_left : Found (has c.loop-left.left) 64 c.lowest-e.result = lowest_found c.loop-left.left (omega (arith, c.loop-left.invariant.0)) c.loop-left-test.true c.lowest-e.result c.lowest-e.ensures in
+    let event_left : Found (has c.loop-left.left) 64 c.lowest-e.result =
+    lowest_found c.loop-left.left (omega (arith, c.loop-left.invariant.0)) c.loop-left-test.true c.lowest-e.result c.lowest-e.ensures in
     omega (arith, (event_left).small)
 
 pub offset_bounds-rows-e : goal.offset_bounds-rows-e
 offset_bounds-rows-e c =
-    let event_left : Found (has c.loop-left.left) 64 c.lowest-e.result = lowest_found c.loop-left.left (omega (arith, c.loop-left.invariant.0)) c.loop-left-test.true c.lowest-e.result c.lowest-e.ensures in
+    let event_left : Found (has c.loop-left.left) 64 c.lowest-e.result =
+    lowest_found c.loop-left.left (omega (arith, c.loop-left.invariant.0)) c.loop-left-test.true c.lowest-e.result c.lowest-e.ensures in
     omega (arith, (event_left).small)
 
 pub bounds-rows-e : goal.bounds-rows-e
 bounds-rows-e c =
-    let event_left : Found (has c.loop-left.left) 64 c.lowest-e.result = lowest_found c.loop-left.left (omega (arith, c.loop-left.invariant.0)) c.loop-left-test.true c.lowest-e.result c.lowest-e.ensures in
+    let event_left : Found (has c.loop-left.left) 64 c.lowest-e.result =
+    lowest_found c.loop-left.left (omega (arith, c.loop-left.invariant.0)) c.loop-left-test.true c.lowest-e.result c.lowest-e.ensures in
     omega (arith, (event_left).small)
 
 pub overflow_shl-left : goal.overflow_shl-left
 overflow_shl-left c =
-    let event_left : Found (has c.loop-left.left) 64 c.lowest-e.result = lowest_found c.loop-left.left (omega (arith, c.loop-left.invariant.0)) c.loop-left-test.true c.lowest-e.result c.lowest-e.ensures in
+    let event_left : Found (has c.loop-left.left) 64 c.lowest-e.result =
+    lowest_found c.loop-left.left (omega (arith, c.loop-left.invariant.0)) c.loop-left-test.true c.lowest-e.result c.lowest-e.ensures in
     (event_left).small
 
 pub overflow_sub-left : goal.overflow_sub-left
 overflow_sub-left c =
-    let event_left : Found (has c.loop-left.left) 64 c.lowest-e.result = lowest_found c.loop-left.left (omega (arith, c.loop-left.invariant.0)) c.loop-left-test.true c.lowest-e.result c.lowest-e.ensures in
+    let event_left : Found (has c.loop-left.left) 64 c.lowest-e.result =
+    lowest_found c.loop-left.left (omega (arith, c.loop-left.invariant.0)) c.loop-left-test.true c.lowest-e.result c.lowest-e.ensures in
     let p = event_left in rw (one_shifted c.lowest-e.result p.small) (worth_le _ _ p.holds)
 
 pub loop-left-smaller : goal.loop-left-smaller
 loop-left-smaller c =
-    let event_left : Found (has c.loop-left.left) 64 c.lowest-e.result = lowest_found c.loop-left.left (omega (arith, c.loop-left.invariant.0)) c.loop-left-test.true c.lowest-e.result c.lowest-e.ensures in
+    let event_left : Found (has c.loop-left.left) 64 c.lowest-e.result =
+    lowest_found c.loop-left.left (omega (arith, c.loop-left.invariant.0)) c.loop-left-test.true c.lowest-e.result c.lowest-e.ensures in
     let p = event_left in
     rw (one_shifted c.lowest-e.result p.small) (omega (arith, worth_le _ _ p.holds, pow_pos c.lowest-e.result))
 
 pub loop-left-preserved : goal.loop-left-preserved
 loop-left-preserved c =
-    let event_left : Found (has c.loop-left.left) 64 c.lowest-e.result = lowest_found c.loop-left.left (omega (arith, c.loop-left.invariant.0)) c.loop-left-test.true c.lowest-e.result c.lowest-e.ensures in
+    let event_left : Found (has c.loop-left.left) 64 c.lowest-e.result =
+    lowest_found c.loop-left.left (omega (arith, c.loop-left.invariant.0)) c.loop-left-test.true c.lowest-e.result c.lowest-e.ensures in
     let e = c.lowest-e.result in
     let p = event_left in
     rw (one_shifted e p.small) (

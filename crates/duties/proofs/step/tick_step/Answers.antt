@@ -35,7 +35,8 @@ same_events of t = ap (λ (h : Head). h.events)
 
 pub returns-then-number-ne0 : goal.returns-then-number-ne0
 returns-then-number-ne0 c =
-    let numbered : (t : Table) (tail : List Record) (m : Marking) → Known c.args.rows.now c.args.links.now c.args.head c.args.clock c.args.sets.now c.args.columns.now c.args.accepted t tail m → c.if-guarding.number ≡ tick_number t m c.args.guarding = λ t tail m k.
+    let numbered : (t : Table) (tail : List Record) (m : Marking) → Known c.args.rows.now c.args.links.now c.args.head c.args.clock c.args.sets.now
+    c.args.columns.now c.args.accepted t tail m → c.if-guarding.number ≡ tick_number t m c.args.guarding = λ t tail m k.
     elim c.if-guarding.branch [
       | then-guarding w ↦
           rw w.if-guarding.true
@@ -55,7 +56,8 @@ returns-then-number-ne0 c =
 
 pub returns-then-accepted : goal.returns-then-accepted
 returns-then-accepted c =
-    let numbered : (t : Table) (tail : List Record) (m : Marking) → Known c.args.rows.now c.args.links.now c.args.head c.args.clock c.args.sets.now c.args.columns.now c.args.accepted t tail m → c.if-guarding.number ≡ tick_number t m c.args.guarding = λ t tail m k.
+    let numbered : (t : Table) (tail : List Record) (m : Marking) → Known c.args.rows.now c.args.links.now c.args.head c.args.clock c.args.sets.now
+    c.args.columns.now c.args.accepted t tail m → c.if-guarding.number ≡ tick_number t m c.args.guarding = λ t tail m k.
     elim c.if-guarding.branch [
       | then-guarding w ↦
           rw w.if-guarding.true
@@ -64,7 +66,10 @@ returns-then-accepted c =
           rw w.if-guarding.false
           (w.number-is ∙ w.plain_number-number.ensures tail m (stands_of (sym (same_events c.args.head t k.head)) k.stands))
     ] in
-    let after : (t : Table) (tail : List Record) (m : Marking) → Known c.args.rows.now c.args.links.now c.args.head c.args.clock c.args.sets.now c.args.columns.now c.args.accepted t tail m → let a = c.args in Stands t.events tail (a.clock + 1) c.if-guarding-2.sets c.if-guarding-2.columns (ticked t m a.guarding) = λ t tail m k. let events = same_events c.args.head t k.head in
+    let after : (t : Table) (tail : List Record) (m : Marking) → Known c.args.rows.now c.args.links.now c.args.head c.args.clock c.args.sets.now
+    c.args.columns.now c.args.accepted t tail m → let a = c.args in
+    Stands t.events tail (a.clock + 1) c.if-guarding-2.sets c.if-guarding-2.columns (ticked t m a.guarding) = λ t tail m k. let events =
+    same_events c.args.head t k.head in
     elim c.if-guarding-2.branch [
       | then-guarding-2 w ↦
           rw (w.if-guarding-2.true, w.sets-is, w.columns-is)
@@ -72,7 +77,15 @@ returns-then-accepted c =
           (w.guarded.ensures.stands t tail m k.good k.derived k.linked (sym events) (head_firm _ t k.head) refl (stands_of (sym events) k.stands)).0)
       | else-guarding-2 w ↦ rw (w.if-guarding-2.false, w.sets-is, w.columns-is) (tick_stands _ _ _ _ _ _ k.stands)
     ] in
-    let done : (now : Bool) → now ≡ (c.args.accepted || c.args.guarding) → (t : Table) (tail : List Record) (m : Marking) → Known c.args.rows.now c.args.links.now c.args.head c.args.clock c.args.sets.now c.args.columns.now c.args.accepted t tail m → Turned t tail m c.args.accepted (cond c.args.guarding 3 2) 0 (record { number = 0; clock = c.tick.result; accepted = now }) c.if-guarding-2.sets c.if-guarding-2.columns = λ now shown t tail m k. let a = c.args in tick_done a.guarding (numbered t tail m k) c.if-number-ne0.false shown (rw c.tick.ensures.value (after t tail m k)) in
+    let done : (now : Bool) → now ≡ (c.args.accepted || c.args.guarding) → (t : Table) (tail : List Record) (m : Marking)
+    → Known c.args.rows.now c.args.links.now c.args.head c.args.clock c.args.sets.now c.args.columns.now c.args.accepted t tail m
+    → Turned t tail m c.args.accepted (cond c.args.guarding 3 2) 0 (record {
+      number = 0;
+      clock = c.tick.result;
+      accepted =
+          now;
+    }) c.if-guarding-2.sets c.if-guarding-2.columns = λ now shown t tail m k. let a = c.args in
+    tick_done a.guarding (numbered t tail m k) c.if-number-ne0.false shown (rw c.tick.ensures.value (after t tail m k)) in
     record {
       clock_bound = omega (arith, c.tick.ensures.value);
       turned = λ t tail m good derived linked head accepts stands.
@@ -82,7 +95,8 @@ returns-then-accepted c =
 
 pub returns-else-accepted : goal.returns-else-accepted
 returns-else-accepted c =
-    let numbered : (t : Table) (tail : List Record) (m : Marking) → Known c.args.rows.now c.args.links.now c.args.head c.args.clock c.args.sets.now c.args.columns.now c.args.accepted t tail m → c.if-guarding.number ≡ tick_number t m c.args.guarding = λ t tail m k.
+    let numbered : (t : Table) (tail : List Record) (m : Marking) → Known c.args.rows.now c.args.links.now c.args.head c.args.clock c.args.sets.now
+    c.args.columns.now c.args.accepted t tail m → c.if-guarding.number ≡ tick_number t m c.args.guarding = λ t tail m k.
     elim c.if-guarding.branch [
       | then-guarding w ↦
           rw w.if-guarding.true
@@ -91,7 +105,10 @@ returns-else-accepted c =
           rw w.if-guarding.false
           (w.number-is ∙ w.plain_number-number.ensures tail m (stands_of (sym (same_events c.args.head t k.head)) k.stands))
     ] in
-    let after : (t : Table) (tail : List Record) (m : Marking) → Known c.args.rows.now c.args.links.now c.args.head c.args.clock c.args.sets.now c.args.columns.now c.args.accepted t tail m → let a = c.args in Stands t.events tail (a.clock + 1) c.if-guarding-2.sets c.if-guarding-2.columns (ticked t m a.guarding) = λ t tail m k. let events = same_events c.args.head t k.head in
+    let after : (t : Table) (tail : List Record) (m : Marking) → Known c.args.rows.now c.args.links.now c.args.head c.args.clock c.args.sets.now
+    c.args.columns.now c.args.accepted t tail m → let a = c.args in
+    Stands t.events tail (a.clock + 1) c.if-guarding-2.sets c.if-guarding-2.columns (ticked t m a.guarding) = λ t tail m k. let events =
+    same_events c.args.head t k.head in
     elim c.if-guarding-2.branch [
       | then-guarding-2 w ↦
           rw (w.if-guarding-2.true, w.sets-is, w.columns-is)
@@ -99,7 +116,15 @@ returns-else-accepted c =
           (w.guarded.ensures.stands t tail m k.good k.derived k.linked (sym events) (head_firm _ t k.head) refl (stands_of (sym events) k.stands)).0)
       | else-guarding-2 w ↦ rw (w.if-guarding-2.false, w.sets-is, w.columns-is) (tick_stands _ _ _ _ _ _ k.stands)
     ] in
-    let done : (now : Bool) → now ≡ (c.args.accepted || c.args.guarding) → (t : Table) (tail : List Record) (m : Marking) → Known c.args.rows.now c.args.links.now c.args.head c.args.clock c.args.sets.now c.args.columns.now c.args.accepted t tail m → Turned t tail m c.args.accepted (cond c.args.guarding 3 2) 0 (record { number = 0; clock = c.tick.result; accepted = now }) c.if-guarding-2.sets c.if-guarding-2.columns = λ now shown t tail m k. let a = c.args in tick_done a.guarding (numbered t tail m k) c.if-number-ne0.false shown (rw c.tick.ensures.value (after t tail m k)) in
+    let done : (now : Bool) → now ≡ (c.args.accepted || c.args.guarding) → (t : Table) (tail : List Record) (m : Marking)
+    → Known c.args.rows.now c.args.links.now c.args.head c.args.clock c.args.sets.now c.args.columns.now c.args.accepted t tail m
+    → Turned t tail m c.args.accepted (cond c.args.guarding 3 2) 0 (record {
+      number = 0;
+      clock = c.tick.result;
+      accepted =
+          now;
+    }) c.if-guarding-2.sets c.if-guarding-2.columns = λ now shown t tail m k. let a = c.args in
+    tick_done a.guarding (numbered t tail m k) c.if-number-ne0.false shown (rw c.tick.ensures.value (after t tail m k)) in
     record {
       clock_bound = omega (arith, c.tick.ensures.value);
       turned = λ t tail m good derived linked head accepts stands.

@@ -46,7 +46,8 @@ pub overflow_add-controllable : goal.overflow_add-controllable
 overflow_add-controllable c =
     let classes-at : List ℕ = c.args.classes.now in
     let byte : get_or (classes-at) c.loop-i.i 0 < 256 = omega (arith, c.shared_slice_known-in-loop-i-1.given c.loop-i.i) in
-    let controls : c.loop-i.controllable + c.event_if-controllable.result ≡ set_of (c.loop-i.i + 1) (is_controllable_in (classes-at)) = set_grown _ c.loop-i.i _ _ c.loop-i.invariant.2 c.event_if-controllable.ensures (byte_controllable (classes-at) c.loop-i.i (byte)) in
+    let controls : c.loop-i.controllable + c.event_if-controllable.result ≡ set_of (c.loop-i.i + 1) (is_controllable_in (classes-at)) =
+    set_grown _ c.loop-i.i _ _ c.loop-i.invariant.2 c.event_if-controllable.ensures (byte_controllable (classes-at) c.loop-i.i (byte)) in
     record { fits = fits _ c.loop-i.i _ (omega arith) (controls) }
 
 pub event_if-causable-requires : goal.event_if-causable-requires
@@ -56,7 +57,8 @@ pub overflow_add-causable : goal.overflow_add-causable
 overflow_add-causable c =
     let classes-at : List ℕ = c.args.classes.now in
     let byte : get_or (classes-at) c.loop-i.i 0 < 256 = omega (arith, c.shared_slice_known-in-loop-i-1.given c.loop-i.i) in
-    let causes : c.loop-i.causable + c.event_if-causable.result ≡ set_of (c.loop-i.i + 1) (is_causable_in (classes-at)) = set_grown _ c.loop-i.i _ _ c.loop-i.invariant.3 c.event_if-causable.ensures (byte_causable (classes-at) c.loop-i.i (byte)) in
+    let causes : c.loop-i.causable + c.event_if-causable.result ≡ set_of (c.loop-i.i + 1) (is_causable_in (classes-at)) =
+    set_grown _ c.loop-i.i _ _ c.loop-i.invariant.3 c.event_if-causable.ensures (byte_causable (classes-at) c.loop-i.i (byte)) in
     record { fits = fits _ c.loop-i.i _ (omega arith) (causes) }
 
 pub loop-i-preserved : goal.loop-i-preserved
@@ -64,8 +66,10 @@ loop-i-preserved c =
     let classes-at : List ℕ = c.args.classes.now in
     let byte : get_or (classes-at) c.loop-i.i 0 < 256 = omega (arith, c.shared_slice_known-in-loop-i-1.given c.loop-i.i) in
     let spare : get_or (classes-at) c.loop-i.i 0 % 64 ≡ field (classes-at) (8 * c.loop-i.i + 2) 6 = byte_spare (classes-at) c.loop-i.i (byte) in
-    let controls : c.loop-i.controllable + c.event_if-controllable.result ≡ set_of (c.loop-i.i + 1) (is_controllable_in (classes-at)) = set_grown _ c.loop-i.i _ _ c.loop-i.invariant.2 c.event_if-controllable.ensures (byte_controllable (classes-at) c.loop-i.i (byte)) in
-    let causes : c.loop-i.causable + c.event_if-causable.result ≡ set_of (c.loop-i.i + 1) (is_causable_in (classes-at)) = set_grown _ c.loop-i.i _ _ c.loop-i.invariant.3 c.event_if-causable.ensures (byte_causable (classes-at) c.loop-i.i (byte)) in (
+    let controls : c.loop-i.controllable + c.event_if-controllable.result ≡ set_of (c.loop-i.i + 1) (is_controllable_in (classes-at)) =
+    set_grown _ c.loop-i.i _ _ c.loop-i.invariant.2 c.event_if-controllable.ensures (byte_controllable (classes-at) c.loop-i.i (byte)) in
+    let causes : c.loop-i.causable + c.event_if-causable.result ≡ set_of (c.loop-i.i + 1) (is_causable_in (classes-at)) =
+    set_grown _ c.loop-i.i _ _ c.loop-i.invariant.3 c.event_if-causable.ensures (byte_causable (classes-at) c.loop-i.i (byte)) in (
       omega arith,
       first_more _ _ c.loop-i.invariant.1 (rw (eq-eqb _ 0 (sym (spare) ∙ c.if-byte-ne0.false))),
       controls,

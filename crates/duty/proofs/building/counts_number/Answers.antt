@@ -9,7 +9,12 @@ pub returns-then-events-gt-MOST_EVENTS : goal.returns-then-events-gt-MOST_EVENTS
 returns-then-events-gt-MOST_EVENTS c = rw (le-leb _ _ c.if-events-lt1.false, lt-leb _ _ c.if-events-gt-MOST_EVENTS.true)
 
 pub returns-then-numbers-gt-MOST_RELATIONS : goal.returns-then-numbers-gt-MOST_RELATIONS
-returns-then-numbers-gt-MOST_RELATIONS c = rw (le-leb _ _ c.if-events-lt1.false, le-leb _ _ c.if-events-gt-MOST_EVENTS.false, lt-leb _ _ c.if-numbers-gt-MOST_RELATIONS.true)
+returns-then-numbers-gt-MOST_RELATIONS c = rw (
+  le-leb _ _ c.if-events-lt1.false,
+  le-leb _ _ c.if-events-gt-MOST_EVENTS.false,
+  lt-leb _ _
+      c.if-numbers-gt-MOST_RELATIONS.true,
+)
 
 pub returns-then-classes-events : goal.returns-then-classes-events
 returns-then-classes-events c =

@@ -5,7 +5,8 @@ use Rattle.duty.proofs.offering.shortest.Goals as goal
 pub returns-then-number-eq0 : goal.returns-then-number-eq0
 returns-then-number-eq0 c =
     let found = c.remedies-start in
-    start_found c.args.t c.args.m c.args.list.now c.requires.m_value c.requires.list_len_bound _ found.ensures.number _ found.ensures.stretch c.if-number-eq0.true
+    start_found c.args.t c.args.m c.args.list.now c.requires.m_value c.requires.list_len_bound _ found.ensures.number _ found.ensures.stretch
+    c.if-number-eq0.true
 
 pub returns : goal.returns
 returns c =

@@ -30,7 +30,8 @@ returns-then-number-ne0 c =
 
 pub played-after-requires : goal.played-after-requires
 played-after-requires c =
-    let granted : let a = c.args in (judged a.t a.m ≡ 0) × (length a.steps.now / 2 ≤ most_steps) = let a = c.args in steps_granted a.t a.m a.steps.now (sym c.bytes_number-number.ensures ∙ c.if-number-ne0.false) in
+    let granted : let a = c.args in (judged a.t a.m ≡ 0) × (length a.steps.now / 2 ≤ most_steps) = let a = c.args in
+    steps_granted a.t a.m a.steps.now (sym c.bytes_number-number.ensures ∙ c.if-number-ne0.false) in
     let known = granted in record {
       m_value = known.0;
       steps_in_bounds = (omega (arith, known.1, c.requires.longest_output_in_bounds), known.1);
@@ -38,27 +39,37 @@ played-after-requires c =
 
 pub slice_bounds-write_marking-count : goal.slice_bounds-write_marking-count
 slice_bounds-write_marking-count c =
-    let still : length c.played-after.new.answers ≡ length c.args.output.now = still_long c.args.t c.args.m c.args.steps.now c.args.output.now (sym c.bytes_number-number.ensures ∙ c.if-number-ne0.false) c.requires.longest_output_in_bounds _ c.played-after.ensures.answers_after in
-    let granted : let a = c.args in (judged a.t a.m ≡ 0) × (length a.steps.now / 2 ≤ most_steps) = let a = c.args in steps_granted a.t a.m a.steps.now (sym c.bytes_number-number.ensures ∙ c.if-number-ne0.false) in
-    let behind : let a = c.args in length a.steps.now / 2 ≤ length c.played-after.new.answers = omega (arith, still, (granted).1, c.requires.longest_output_in_bounds) in
+    let still : length c.played-after.new.answers ≡ length c.args.output.now =
+    still_long c.args.t c.args.m c.args.steps.now c.args.output.now (sym c.bytes_number-number.ensures
+    ∙ c.if-number-ne0.false) c.requires.longest_output_in_bounds _ c.played-after.ensures.answers_after in
+    let granted : let a = c.args in (judged a.t a.m ≡ 0) × (length a.steps.now / 2 ≤ most_steps) = let a = c.args in
+    steps_granted a.t a.m a.steps.now (sym c.bytes_number-number.ensures ∙ c.if-number-ne0.false) in
+    let behind : let a = c.args in length a.steps.now / 2 ≤ length c.played-after.new.answers =
+    omega (arith, still, (granted).1, c.requires.longest_output_in_bounds) in
     omega (arith, behind)
 
 pub slice_bounds-write_marking-start : goal.slice_bounds-write_marking-start
 slice_bounds-write_marking-start c =
-    let still : length c.played-after.new.answers ≡ length c.args.output.now = still_long c.args.t c.args.m c.args.steps.now c.args.output.now (sym c.bytes_number-number.ensures ∙ c.if-number-ne0.false) c.requires.longest_output_in_bounds _ c.played-after.ensures.answers_after in
-    let granted : let a = c.args in (judged a.t a.m ≡ 0) × (length a.steps.now / 2 ≤ most_steps) = let a = c.args in steps_granted a.t a.m a.steps.now (sym c.bytes_number-number.ensures ∙ c.if-number-ne0.false) in
-    let behind : let a = c.args in length a.steps.now / 2 ≤ length c.played-after.new.answers = omega (arith, still, (granted).1, c.requires.longest_output_in_bounds) in
+    let still : length c.played-after.new.answers ≡ length c.args.output.now =
+    still_long c.args.t c.args.m c.args.steps.now c.args.output.now (sym c.bytes_number-number.ensures
+    ∙ c.if-number-ne0.false) c.requires.longest_output_in_bounds _ c.played-after.ensures.answers_after in
+    let granted : let a = c.args in (judged a.t a.m ≡ 0) × (length a.steps.now / 2 ≤ most_steps) = let a = c.args in
+    steps_granted a.t a.m a.steps.now (sym c.bytes_number-number.ensures ∙ c.if-number-ne0.false) in
+    let behind : let a = c.args in length a.steps.now / 2 ≤ length c.played-after.new.answers =
+    omega (arith, still, (granted).1, c.requires.longest_output_in_bounds) in
     omega (arith, behind)
 
 pub overflow_mul-result : goal.overflow_mul-result
 overflow_mul-result c =
-    let granted : let a = c.args in (judged a.t a.m ≡ 0) × (length a.steps.now / 2 ≤ most_steps) = let a = c.args in steps_granted a.t a.m a.steps.now (sym c.bytes_number-number.ensures ∙ c.if-number-ne0.false) in
+    let granted : let a = c.args in (judged a.t a.m ≡ 0) × (length a.steps.now / 2 ≤ most_steps) = let a = c.args in
+    steps_granted a.t a.m a.steps.now (sym c.bytes_number-number.ensures ∙ c.if-number-ne0.false) in
     let known = granted in
     omega (arith, (good _ _ known.0).table_good.few_events)
 
 pub overflow_add-result : goal.overflow_add-result
 overflow_add-result c =
-    let granted : let a = c.args in (judged a.t a.m ≡ 0) × (length a.steps.now / 2 ≤ most_steps) = let a = c.args in steps_granted a.t a.m a.steps.now (sym c.bytes_number-number.ensures ∙ c.if-number-ne0.false) in
+    let granted : let a = c.args in (judged a.t a.m ≡ 0) × (length a.steps.now / 2 ≤ most_steps) = let a = c.args in
+    steps_granted a.t a.m a.steps.now (sym c.bytes_number-number.ensures ∙ c.if-number-ne0.false) in
     let known = granted in
     omega (arith, (good _ _ known.0).table_good.few_events, known.1)
 

@@ -13,7 +13,12 @@ returns-then-beyond-eq0 c = rw (le-ltb _ _ c.if-room-lt-LONGEST_OUTPUT.false, c.
 
 pub returns-then-kept-lt-LONGEST_INPUT : goal.returns-then-kept-lt-LONGEST_INPUT
 unfolding heard_number
-returns-then-kept-lt-LONGEST_INPUT c = rw (le-ltb _ _ c.if-room-lt-LONGEST_OUTPUT.false, ne_eqb _ _ c.if-beyond-eq0.false, lt-ltb _ _ c.if-kept-lt-LONGEST_INPUT.true)
+returns-then-kept-lt-LONGEST_INPUT c = rw (
+  le-ltb _ _ c.if-room-lt-LONGEST_OUTPUT.false,
+  ne_eqb _ _ c.if-beyond-eq0.false,
+  lt-ltb _ _
+      c.if-kept-lt-LONGEST_INPUT.true,
+)
 
 pub returns : goal.returns
 unfolding heard_number

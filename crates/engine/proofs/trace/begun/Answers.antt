@@ -13,14 +13,16 @@ pub returns-then-number-eq0-2 : goal.returns-then-number-eq0-2
 unfolding begun_run
 returns-then-number-eq0-2 c =
     let judged_told : c.then_marking-number.result ≡ judged c.args.t c.args.m = judged_by _ _ c.judge_table.ensures c.then_marking-number.ensures in
-    let told : let a = c.args in c.trace_number-number.result ≡ (judged a.t a.m else trace_number a.steps a.room) = rw (sym (judged_told) ∙ c.if-number-eq0.true) c.trace_number-number.ensures in
+    let told : let a = c.args in c.trace_number-number.result ≡ (judged a.t a.m else trace_number a.steps a.room) = rw (sym (judged_told)
+    ∙ c.if-number-eq0.true) c.trace_number-number.ensures in
     rw (sym (told) ∙ c.if-number-eq0-2.true)
 
 pub returns-else-number-eq0-2 : goal.returns-else-number-eq0-2
 unfolding begun_run
 returns-else-number-eq0-2 c =
     let judged_told : c.then_marking-number.result ≡ judged c.args.t c.args.m = judged_by _ _ c.judge_table.ensures c.then_marking-number.ensures in
-    let told : let a = c.args in c.trace_number-number.result ≡ (judged a.t a.m else trace_number a.steps a.room) = rw (sym (judged_told) ∙ c.if-number-eq0.true) c.trace_number-number.ensures in
+    let told : let a = c.args in c.trace_number-number.result ≡ (judged a.t a.m else trace_number a.steps a.room) = rw (sym (judged_told)
+    ∙ c.if-number-eq0.true) c.trace_number-number.ensures in
     rw (← told, ne_eqb _ 0 c.if-number-eq0-2.false)
 
 pub returns-else-number-eq0 : goal.returns-else-number-eq0

@@ -29,8 +29,16 @@ pub step-told-requires : goal.step-told-requires
 step-told-requires c =
     let made = c.derived.ensures in
     let events = ap {B = ℕ} (λ (h : Head). h.events) c.head_of-head.ensures in
-    let few = (table_good _ _ c.requires.m_value).few_events in
-    (omega (arith, events, some_events _ _ c.requires.m_value), omega (arith, events, few), made.derived.size, made.linked.size, omega (arith, c.requires.steps_in_bounds.1))
+    let few = (table_good _ _ c.requires.m_value).few_events in (
+      omega (arith, events, some_events _ _ c.requires.m_value),
+      omega (arith, events, few),
+      made.derived.size,
+      made.linked.size,
+      omega (
+        arith,
+        c.requires.steps_in_bounds.1,
+      ),
+    )
 
 pub bounds-answers-i : goal.bounds-answers-i
 bounds-answers-i c =

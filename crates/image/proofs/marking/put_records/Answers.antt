@@ -32,7 +32,8 @@ overflow_mul-i c =
 
 pub put_record-requires : goal.put_record-requires
 put_record-requires c =
-    let long : length c.loop-i.buffer ≡ length c.args.buffer.now = let a = c.args in ap length c.loop-i.invariant.2 ∙ standing_length (records_sized a.m) a.buffer.now 0 c.loop-i.i (omega arith) in
+    let long : length c.loop-i.buffer ≡ length c.args.buffer.now = let a = c.args in ap length c.loop-i.invariant.2
+    ∙ standing_length (records_sized a.m) a.buffer.now 0 c.loop-i.i (omega arith) in
     (record_done _ c.requires.0 _ (omega arith), rw (long) (omega arith))
 
 pub overflow_add-i : goal.overflow_add-i
@@ -50,7 +51,8 @@ loop-i-preserved c =
 
 pub shape_of-buffer : goal.shape_of-buffer
 shape_of-buffer c =
-    let long : length c.loop-i.buffer ≡ length c.args.buffer.now = let a = c.args in ap length c.loop-i.invariant.2 ∙ standing_length (records_sized a.m) a.buffer.now 0 c.loop-i.i (omega arith) in
+    let long : length c.loop-i.buffer ≡ length c.args.buffer.now = let a = c.args in ap length c.loop-i.invariant.2
+    ∙ standing_length (records_sized a.m) a.buffer.now 0 c.loop-i.i (omega arith) in
     long
 
 pub returns : goal.returns

@@ -33,19 +33,27 @@ returns-then-w-ne0 c =
 
 pub overflow_add-controllable : goal.overflow_add-controllable
 overflow_add-controllable c =
-    let controls : c.loop-i.controllable + c.event_if-controllable.result ≡ set_of (c.loop-i.i + 1) (is_controllable_in c.args.image.now) = set_grown _ c.loop-i.i _ _ c.loop-i.invariant.2 c.event_if-controllable.ensures (ap (λ (w : ℕ). eqb (w / 2 ^ 7 % 2) 1) c.word-w.ensures ∙ class_controllable _ _) in
+    let controls : c.loop-i.controllable + c.event_if-controllable.result ≡ set_of (c.loop-i.i + 1) (is_controllable_in c.args.image.now) =
+    set_grown _ c.loop-i.i _ _ c.loop-i.invariant.2 c.event_if-controllable.ensures (ap (λ (w : ℕ). eqb (w / 2 ^ 7 % 2) 1) c.word-w.ensures
+    ∙ class_controllable _ _) in
     record { fits = fits _ c.loop-i.i _ (omega arith) (controls) }
 
 pub overflow_add-causable : goal.overflow_add-causable
 overflow_add-causable c =
-    let causes : c.loop-i.causable + c.event_if-causable.result ≡ set_of (c.loop-i.i + 1) (is_causable_in c.args.image.now) = set_grown _ c.loop-i.i _ _ c.loop-i.invariant.3 c.event_if-causable.ensures (ap (λ (w : ℕ). eqb (w / 2 ^ 6 % 2) 1) c.word-w.ensures ∙ class_causable _ _) in
+    let causes : c.loop-i.causable + c.event_if-causable.result ≡ set_of (c.loop-i.i + 1) (is_causable_in c.args.image.now) =
+    set_grown _ c.loop-i.i _ _ c.loop-i.invariant.3 c.event_if-causable.ensures (ap (λ (w : ℕ). eqb (w / 2 ^ 6 % 2) 1) c.word-w.ensures
+    ∙ class_causable _ _) in
     record { fits = fits _ c.loop-i.i _ (omega arith) (causes) }
 
 pub loop-i-preserved : goal.loop-i-preserved
 loop-i-preserved c =
     let spare : c.word-w.result % 64 ≡ class_spare c.args.image.now c.loop-i.i = ap (λ (w : ℕ). w % 64) c.word-w.ensures ∙ class_spare_lem _ _ in
-    let controls : c.loop-i.controllable + c.event_if-controllable.result ≡ set_of (c.loop-i.i + 1) (is_controllable_in c.args.image.now) = set_grown _ c.loop-i.i _ _ c.loop-i.invariant.2 c.event_if-controllable.ensures (ap (λ (w : ℕ). eqb (w / 2 ^ 7 % 2) 1) c.word-w.ensures ∙ class_controllable _ _) in
-    let causes : c.loop-i.causable + c.event_if-causable.result ≡ set_of (c.loop-i.i + 1) (is_causable_in c.args.image.now) = set_grown _ c.loop-i.i _ _ c.loop-i.invariant.3 c.event_if-causable.ensures (ap (λ (w : ℕ). eqb (w / 2 ^ 6 % 2) 1) c.word-w.ensures ∙ class_causable _ _) in (
+    let controls : c.loop-i.controllable + c.event_if-controllable.result ≡ set_of (c.loop-i.i + 1) (is_controllable_in c.args.image.now) =
+    set_grown _ c.loop-i.i _ _ c.loop-i.invariant.2 c.event_if-controllable.ensures (ap (λ (w : ℕ). eqb (w / 2 ^ 7 % 2) 1) c.word-w.ensures
+    ∙ class_controllable _ _) in
+    let causes : c.loop-i.causable + c.event_if-causable.result ≡ set_of (c.loop-i.i + 1) (is_causable_in c.args.image.now) =
+    set_grown _ c.loop-i.i _ _ c.loop-i.invariant.3 c.event_if-causable.ensures (ap (λ (w : ℕ). eqb (w / 2 ^ 6 % 2) 1) c.word-w.ensures
+    ∙ class_causable _ _) in (
       omega arith,
       first_more _ _ c.loop-i.invariant.1
           (rw (eq-eqb _ 0 (sym (spare) ∙ c.if-w-ne0.false))),

@@ -20,7 +20,8 @@ loop-i-init c = (search rules, standing_none (sized c.args.controllable c.args.c
 
 pub put_word-requires : goal.put_word-requires
 put_word-requires c =
-    let long : length c.loop-i.buffer ≡ length c.args.buffer.now = let a = c.args in ap length c.loop-i.invariant.1 ∙ standing_length (sized a.controllable a.causable) a.buffer.now 4 c.loop-i.i (omega arith) in
+    let long : length c.loop-i.buffer ≡ length c.args.buffer.now = let a = c.args in ap length c.loop-i.invariant.1
+    ∙ standing_length (sized a.controllable a.causable) a.buffer.now 4 c.loop-i.i (omega arith) in
     (omega (arith, long), search rules)
 
 pub loop-i-preserved : goal.loop-i-preserved
@@ -35,7 +36,8 @@ loop-i-preserved c =
 
 pub shape_of-buffer : goal.shape_of-buffer
 shape_of-buffer c =
-    let long : length c.loop-i.buffer ≡ length c.args.buffer.now = let a = c.args in ap length c.loop-i.invariant.1 ∙ standing_length (sized a.controllable a.causable) a.buffer.now 4 c.loop-i.i (omega arith) in
+    let long : length c.loop-i.buffer ≡ length c.args.buffer.now = let a = c.args in ap length c.loop-i.invariant.1
+    ∙ standing_length (sized a.controllable a.causable) a.buffer.now 4 c.loop-i.i (omega arith) in
     long
 
 pub returns : goal.returns

@@ -76,7 +76,8 @@ overflow_add-behind-in-loop-i c =
 
 pub put_relation-requires : goal.put_relation-requires
 put_relation-requires c =
-    let long : length c.loop-i.buffer ≡ length c.args.buffer.now = let a = c.args in ap length c.loop-i.invariant.3 ∙ standing_length (places_sized a.t) a.buffer.now (4 + a.t.events) c.loop-i.i (omega arith) in
+    let long : length c.loop-i.buffer ≡ length c.args.buffer.now = let a = c.args in ap length c.loop-i.invariant.3
+    ∙ standing_length (places_sized a.t) a.buffer.now (4 + a.t.events) c.loop-i.i (omega arith) in
     omega (arith, long)
 
 pub overflow_add-i : goal.overflow_add-i
@@ -96,7 +97,8 @@ loop-i-preserved c =
 
 pub shape_of-buffer : goal.shape_of-buffer
 shape_of-buffer c =
-    let long : length c.loop-i.buffer ≡ length c.args.buffer.now = let a = c.args in ap length c.loop-i.invariant.3 ∙ standing_length (places_sized a.t) a.buffer.now (4 + a.t.events) c.loop-i.i (omega arith) in
+    let long : length c.loop-i.buffer ≡ length c.args.buffer.now = let a = c.args in ap length c.loop-i.invariant.3
+    ∙ standing_length (places_sized a.t) a.buffer.now (4 + a.t.events) c.loop-i.i (omega arith) in
     long
 
 pub returns : goal.returns

@@ -27,7 +27,8 @@ loop-i-init c = (
 pub returns-then-w-ne0 : goal.returns-then-w-ne0
 unfolding relation_image_number
 returns-then-w-ne0 c =
-    let spare : c.word-w.result % 4 ≡ relation_spare c.args.image.now (relation_bit c.args.events c.loop-i.i) = ap (λ (w : ℕ). w % 4) c.word-w.ensures ∙ relation_spare_lem _ _ in
+    let spare : c.word-w.result % 4 ≡ relation_spare c.args.image.now (relation_bit c.args.events c.loop-i.i) = ap (λ (w : ℕ). w % 4) c.word-w.ensures
+    ∙ relation_spare_lem _ _ in
     let set : number_in c.args.image.now
     c.args.events c.loop-i.i ≡ 2 =
     rw (ne_eqb _ 0 (λ z. c.if-w-ne0.true (spare ∙ z))) in
@@ -39,9 +40,12 @@ returns-then-w-ne0 c =
 pub returns-then-number-ne0 : goal.returns-then-number-ne0
 unfolding relation_image_number
 returns-then-number-ne0 c =
-    let spare : c.word-w.result % 4 ≡ relation_spare c.args.image.now (relation_bit c.args.events c.loop-i.i) = ap (λ (w : ℕ). w % 4) c.word-w.ensures ∙ relation_spare_lem _ _ in
-    let read : c.relation_of-k.result ≡ relation_in c.args.image.now c.args.events c.loop-i.i = c.relation_of-k.ensures ∙ ap relation_of_word c.word-w.ensures ∙ relation_parts _ _ in
-    let number : c.relation_number-number.result ≡ number_in c.args.image.now c.args.events c.loop-i.i = rw (eq-eqb _ 0 (sym (spare) ∙ c.if-w-ne0.false)) (c.relation_number-number.ensures ∙ ap (relation_number c.args.events) (read)) in
+    let spare : c.word-w.result % 4 ≡ relation_spare c.args.image.now (relation_bit c.args.events c.loop-i.i) = ap (λ (w : ℕ). w % 4) c.word-w.ensures
+    ∙ relation_spare_lem _ _ in
+    let read : c.relation_of-k.result ≡ relation_in c.args.image.now c.args.events c.loop-i.i = c.relation_of-k.ensures
+    ∙ ap relation_of_word c.word-w.ensures ∙ relation_parts _ _ in
+    let number : c.relation_number-number.result ≡ number_in c.args.image.now c.args.events c.loop-i.i = rw (eq-eqb _ 0 (sym (spare)
+    ∙ c.if-w-ne0.false)) (c.relation_number-number.ensures ∙ ap (relation_number c.args.events) (read)) in
     let here = number in
     let first =
     first_here _ c.args.count
@@ -53,9 +57,12 @@ returns-then-number-ne0 c =
 pub loop-i-preserved : goal.loop-i-preserved
 unfolding relation_image_number
 loop-i-preserved c =
-    let read : c.relation_of-k.result ≡ relation_in c.args.image.now c.args.events c.loop-i.i = c.relation_of-k.ensures ∙ ap relation_of_word c.word-w.ensures ∙ relation_parts _ _ in
-    let spare : c.word-w.result % 4 ≡ relation_spare c.args.image.now (relation_bit c.args.events c.loop-i.i) = ap (λ (w : ℕ). w % 4) c.word-w.ensures ∙ relation_spare_lem _ _ in
-    let number : c.relation_number-number.result ≡ number_in c.args.image.now c.args.events c.loop-i.i = rw (eq-eqb _ 0 (sym (spare) ∙ c.if-w-ne0.false)) (c.relation_number-number.ensures ∙ ap (relation_number c.args.events) (read)) in
+    let read : c.relation_of-k.result ≡ relation_in c.args.image.now c.args.events c.loop-i.i = c.relation_of-k.ensures
+    ∙ ap relation_of_word c.word-w.ensures ∙ relation_parts _ _ in
+    let spare : c.word-w.result % 4 ≡ relation_spare c.args.image.now (relation_bit c.args.events c.loop-i.i) = ap (λ (w : ℕ). w % 4) c.word-w.ensures
+    ∙ relation_spare_lem _ _ in
+    let number : c.relation_number-number.result ≡ number_in c.args.image.now c.args.events c.loop-i.i = rw (eq-eqb _ 0 (sym (spare)
+    ∙ c.if-w-ne0.false)) (c.relation_number-number.ensures ∙ ap (relation_number c.args.events) (read)) in
     let i = c.loop-i.i in (
       omega arith,
       rw (c.loop-i.invariant.1, read)

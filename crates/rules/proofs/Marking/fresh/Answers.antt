@@ -15,7 +15,8 @@ returns-then-events-lt1 c = rw (lt-leb _ _ c.if-events-lt1.true) c.refused.ensur
 
 pub returns-then-events-gt-MOST_EVENTS : goal.returns-then-events-gt-MOST_EVENTS
 unfolding fresh
-returns-then-events-gt-MOST_EVENTS c = rw (le-leb _ _ c.if-events-lt1.false, lt-leb _ _ c.if-events-gt-MOST_EVENTS.true) c.refused-then-events-gt-MOST_EVENTS.ensures
+returns-then-events-gt-MOST_EVENTS c = rw (le-leb _ _ c.if-events-lt1.false, lt-leb _ _ c.if-events-gt-MOST_EVENTS.true)
+    c.refused-then-events-gt-MOST_EVENTS.ensures
 
 pub loop-i-init : goal.loop-i-init
 loop-i-init c =
