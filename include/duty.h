@@ -50,12 +50,12 @@
  * are measured, of the compiled library, and not proved: docs/BENCH.md, 'Stack', says how. None takes more than 24 KiB. There is no heap, and
  * one call recurses: duty_chain, one visit within another for each event at most, 64, and one more that finds its event open. All of them are
  * counted.
- *     duty_sleep 23,888   duty_guarded_tick 19,760  duty_run 19,648      duty_remedies 17,264
- *     duty_happen 15,584  duty_check 14,752         duty_chain 13,456    duty_plain_tick 13,392
- *     duty_margin 12,656  duty_closure 12,640       duty_enabled 11,584  duty_hold_up 11,584
- *     duty_quiet 10,576   duty_due 10,560           duty_record 8,512    duty_relation 8,512
- *     duty_judge 7,456    duty_class 6,400          duty_firm 6,400      duty_write_table 4,464
- *     duty_fresh 4,208    duty_carry 3,184
+ *     duty_sleep 23,296   duty_guarded_tick 20,320  duty_run 23,504      duty_remedies 15,416
+ *     duty_happen 16,816  duty_check 14,032         duty_chain 13,712    duty_plain_tick 16,816
+ *     duty_margin 13,712  duty_closure 13,728       duty_enabled 13,696  duty_hold_up 13,728
+ *     duty_quiet 13,712   duty_due 13,712           duty_record 13,696   duty_relation 8,432
+ *     duty_judge 10,560   duty_class 6,320          duty_firm 6,320      duty_write_table 4,480
+ *     duty_fresh 3,176    duty_carry 2,112
  *     duty_size, duty_lowest 8
  */
 #ifndef DUTY_H

@@ -1,38 +1,22 @@
 // What is written of one call: number, reason, place (2 bytes, the higher first), how many events it caused, and these.
-use crate::part;
-use rules::{CheckAnswer, GuardedAnswer};
+use rules::{CheckError, Refusal, Rejection};
 use std::io::Stdout;
 
-pub fn put_byte(out: Stdout, b: u8) {
-    let s = [b; 1];
-    streams::write_all(out, &s);
-}
-
 fn put_head(out: Stdout, number: u8, reason: u8, place: usize, count: usize) {
-    let mut s = [0u8; 5];
-    s[0] = number;
-    s[1] = reason;
-    s[2] = (place / 256 % 256) as u8;
-    s[3] = (place % 256) as u8;
-    s[4] = (count % 256) as u8;
-    streams::write_all(out, &s);
+    let [high, low] = ((place & 0xffff) as u16).to_be_bytes();
+    let _ = streams::write_all(out, &[number, reason, high, low, (count & 0xff) as u8]);
 }
 
-// Of a call that has a number alone.
-pub fn put_number(out: Stdout, number: u8) {
-    put_head(out, number, 0, 0, 0);
-}
-
-pub fn put_check(out: Stdout, a: CheckAnswer) {
-    match a {
-        CheckAnswer::Refused(number) => put_head(out, number, 0, 0, 0),
-        CheckAnswer::Accepts => put_head(out, 0, 0, 0, 0),
-        CheckAnswer::Rejects(reason, place) => put_head(out, 12, reason, place, 0),
+// A call that is done has the events that it caused.
+pub fn put(out: Stdout, answer: Result<&[u8], CheckError>) {
+    match answer {
+        Ok(caused) => {
+            put_head(out, 0, 0, 0, caused.len());
+            let _ = streams::write_all(out, caused);
+        }
+        Err(CheckError::Refused(refusal)) => put_head(out, u8::from(refusal), 0, 0, 0),
+        Err(CheckError::Rejected(Rejection { reason, place })) => {
+            put_head(out, u8::from(Refusal::Rejected), u8::from(reason), place, 0)
+        }
     }
-}
-
-pub fn put_guarded(out: Stdout, a: GuardedAnswer) {
-    let caused = a.caused;
-    put_head(out, a.number, a.reason, a.place, a.count);
-    streams::write_all(out, part::before(&caused, a.count));
 }

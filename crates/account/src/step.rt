@@ -1,46 +1,49 @@
 // The steps of a trace, each by the public call of its kind; what the call answered is written, and the marking handed on.
 use crate::record;
-use rules::{GuardedAnswer, Marking, MarkingAnswer, Step, Table};
+use rules::{CheckError, Guarded, Marking, Refusal, Step, Table};
 use std::io::Stdout;
 
-fn told(out: Stdout, a: MarkingAnswer) -> Marking {
-    let m = a.marking;
-    record::put_number(out, a.number);
-    m
+fn told(out: Stdout, before: &Marking, answer: Result<Marking, Refusal>) -> Marking {
+    let nothing: &[u8] = &[];
+    record::put(out, answer.map(|_| nothing).map_err(CheckError::Refused));
+    answer.unwrap_or(*before)
 }
 
-fn told_guarded(out: Stdout, a: GuardedAnswer) -> Marking {
-    let m = a.marking;
-    record::put_guarded(out, a);
-    m
-}
-
-// A kind above the ticks', or a tick with an event, is no call's: 15.
-fn tick(out: Stdout, t: Table, m: Marking, kind: u8, event: u8) -> Marking {
-    if event != 0 || Step::GUARDED_TICK < kind {
-        record::put_number(out, 15);
-        return m;
+fn told_guarded(out: Stdout, before: &Marking, answer: Result<Guarded, CheckError>) -> Marking {
+    match answer {
+        Ok(guarded) => {
+            record::put(
+                out,
+                Ok(&guarded.caused[..guarded.count.min(Table::MOST_EVENTS)]),
+            );
+            guarded.marking
+        }
+        Err(error) => {
+            record::put(out, Err(error));
+            *before
+        }
     }
-    if kind == Step::GUARDED_TICK {
-        return told_guarded(out, engine::guarded_tick(t, m));
-    }
-    told(out, engine::plain_tick(t, m))
 }
 
-fn step(out: Stdout, t: Table, m: Marking, kind: u8, event: u8) -> Marking {
-    if kind <= Step::LAST_HAPPEN {
-        return told(out, engine::happen(t, m, event as usize));
+// A kind above the ticks', or a tick with an event, is no call's.
+fn step(out: Stdout, t: &Table, m: &Marking, step: Step) -> Marking {
+    match step.kind {
+        Step::HAPPEN..=Step::LAST_HAPPEN => told(out, m, engine::happen(t, m, step.event as usize)),
+        Step::PLAIN_TICK if step.event == 0 => told(out, m, engine::plain_tick(t, m)),
+        Step::GUARDED_TICK if step.event == 0 => told_guarded(out, m, engine::guarded_tick(t, m)),
+        _ => told(out, m, Err(Refusal::Step)),
     }
-    tick(out, t, m, kind, event)
 }
 
-// The marking after the last step.
-pub fn play(out: Stdout, t: Table, m: Marking, steps: &[u8]) -> Marking {
+// The marking after the last step. A byte that is left over is none.
+pub fn play(out: Stdout, t: &Table, m: Marking, steps: &[u8]) -> Marking {
     let mut after = m;
-    let mut i = 0;
-    while i < steps.len() / 2 {
-        after = step(out, t, after, steps[i * 2], steps[i * 2 + 1]);
-        i += 1;
+    for bytes in steps.chunks_exact(2) {
+        let next = Step {
+            kind: bytes[0],
+            event: bytes[1],
+        };
+        after = step(out, t, &after, next);
     }
     after
 }

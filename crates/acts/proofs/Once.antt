@@ -20,7 +20,7 @@ use Rattle.acts.specs.Stands.{Stands}
 pub members_once : (f : ℕ → Bool) {r s : ℕ} → ((x : ℕ) → has r x ≡ f x) → ((x : ℕ) → has s x ≡ f x) → r ≡ s
 members_once f {r} {s} p q = same_word r s (λ x. p x ∙ sym (q x))
 
--- `lay`, `give`, `effect`, `tick`, `happen`
+-- of `MarkingWords`: `of`, `marking`, `execute`, `pass_tick`, `happen`
 pub stands_once : {n clock : ℕ} {tail : List Record} {sets columns : List ℕ} {m k : Marking} → Stands n tail clock sets columns m
     → Stands n tail clock sets columns k → m ≡ k
 stands_once p q = p.is ∙ sym q.is
@@ -54,11 +54,11 @@ module _ (t : Table) (n : ℕ) (rows others : List ℕ) (derived : Derived t n r
           by_sort (no l) (yes q) = place i 8 q (responses (i / 10) small)
           by_sort (no l) (no q) = place i 9 (omega arith) (waits (i / 10) small)
 
-  -- `derived`, `own`
+  -- `TableWords::of`, `OwnRow::of`
   pub rows_once : (links more : List ℕ) → Linked t n rows links → Linked t n others more → rows ≡ others
   rows_once links more linked linked2 =
       rows_same (λ e b. linked.responses e b ∙ sym (linked2.responses e b)) (λ e b. linked.waits e b ∙ sym (linked2.waits e b))
 
-  -- `rows_of`
+  -- `Rows::of`
   pub rows_alone_once : Unlinked rows → Unlinked others → rows ≡ others
   rows_alone_once none none2 = rows_same (λ e b. (none e b).0 ∙ sym (none2 e b).0) (λ e b. (none e b).1 ∙ sym (none2 e b).1)

@@ -84,11 +84,17 @@ pub record Linked (t : Table) (n : ℕ) (rows links : List ℕ) : Type 0 where
 abbrev pub Unlinked : List ℕ → Type 0
 Unlinked rows = (e : ℕ) → e < 64 → (get_or rows (10 * e + 8) 0 ≡ 0) × (get_or rows (10 * e + 9) 0 ≡ 0)
 
--- Noting relation i: in the row of its left event, which stands from `at` on, and in its chain
+-- relation i begins its chain, if it is in one, in the row of its left event, which stands from `at` on
+abbrev pub rows_begun : List ℕ → ℕ → ℕ → Relation → List ℕ
+rows_begun rows at i k = cond (is_chained k) (set rows (at + chain_of (sort_of k)) (i + 1)) rows
+
+-- the word of its sort, in that row, has its right event
+abbrev pub row_noted : List ℕ → ℕ → Relation → List ℕ
+row_noted rows at k = set rows (at + sort_of k) (with_event (get_or rows (at + sort_of k) 0) k.right)
+
+-- Noting relation i: in its chain, and in the row
 unfoldable pub rows_noted : List ℕ → ℕ → ℕ → Relation → List ℕ
-rows_noted rows at i k =
-    let begun = cond (is_chained k) (set rows (at + chain_of (sort_of k)) (i + 1)) rows in
-    set begun (at + sort_of k) (with_event (get_or rows (at + sort_of k) 0) k.right)
+rows_noted rows at i k = set (rows_begun rows at i k) (at + sort_of k) (with_event (get_or rows (at + sort_of k) 0) k.right)
 
 unfoldable pub links_noted : List ℕ → List ℕ → ℕ → ℕ → Relation → List ℕ
 links_noted links rows at i k = cond (is_chained k) (set links i (link_of (get_or rows (at + chain_of (sort_of k)) 0 % 512) k)) links

@@ -1,59 +1,48 @@
 // The scan for the first relation that blocks an event, or would if its right event were included: one scan, told which.
-ghost use Rattle.std.specs.Prelude.{◌≡◌, ◌&&◌, ◌≤◌, eqb};
+ghost use Rattle.std.specs.Prelude.{◌≡◌, ◌≤◌, ◌&&◌, ◌||◌, not, leb};
 ghost use Rattle.rules.specs.Counting.{lowest};
+ghost use Rattle.rules.specs.Holds.{is_condition, is_milestone};
 ghost use Rattle.rules.specs.Enabled.{stops};
 ghost use Rattle.rules.specs.Shapes.Good.{Good};
-ghost use Rattle.acts.specs.Blocking.{as_if, blocks_as};
+ghost use Rattle.acts.specs.Blocking.{as_if, blocks_as, FoundLowest};
 
 use rules::{Marking, Record, Relation, Table};
+
+// What a relation asks of its right event, of which r is the record, is not there.
+fn lacks(k: Relation, r: Record) -> bool
+    ensures { result ≡ (is_condition k && not (r.happened && leb k.time r.age) || is_milestone k && r.pending) }
+{
+    match k.kind {
+        1 => !r.happened || r.age < k.time,
+        5 => r.pending,
+        _ => false,
+    }
+}
 
 // A relation stops its left event, where r is the record of its right event, or would if that had returned.
 pub fn stops(k: Relation, r: Record, returned: bool) -> bool
     ensures { result ≡ stops k (as_if returned r) }
 {
-    if returned || r.included {
-        if k.kind == 1 {
-            if r.happened {
-                return !(k.time <= r.age);
-            }
-            return true;
-        }
-        if k.kind == 5 {
-            return r.pending;
-        }
-    }
-    false
+    (returned || r.included) && lacks(k, r)
 }
 
-// The same of e, which may not be its left event.
-fn stops_event(k: Relation, r: Record, e: usize, returned: bool) -> bool
-    ensures { result ≡ eqb k.left e && stops k (as_if returned r) }
+// The lowest relation that blocks e, or would; it is known that none does before `from`.
+pub fn first_blocking(
+    t: &Table,
+    m: &Marking,
+    e: usize,
+    from: usize,
+    returned: bool,
+) -> Option<usize>
+    requires good { Good t.now m.now }
+    requires from_le_count { (from ≤ t.now.count) × (lowest from (blocks_as returned t.now m.now e) ≡ from) }
+    ensures { FoundLowest t.now.count (blocks_as returned t.now m.now e) result }
 {
-    if k.left as usize == e {
-        return stops(k, r, returned);
-    }
-    false
-}
-
-// The lowest relation that blocks e, or would, or the count where none does; it is known that none does before `from`.
-pub fn first_blocking(t: Table, m: Marking, e: usize, from: usize, returned: bool) -> usize
-    requires good { Good t m }
-    requires from_le_count { (from ≤ t.count) × (lowest from (blocks_as returned t m e) ≡ from) }
-    ensures { result ≡ lowest t.count (blocks_as returned t m e) }
-{
-    let count = t.count;
-    let mut i = from;
-    let first = loop {
-        if count <= i {
-            break count;
-        }
+    for i in from..t.count {
         let k = t.relations[i];
-        let x = k.right as usize;
-        let r = m.records[x];
-        if stops_event(k, r, e, returned) {
-            break i;
+        if k.left as usize == e && stops(k, m.records[k.right as usize], returned) {
+            return Some(i);
         }
-        i += 1;
-    };
-    first
+    }
+    None
 }

@@ -1,43 +1,34 @@
 // An event that happens.
-ghost use Rattle.std.specs.Prelude.{◌≡◌, List, ◌<◌, ◌≤◌, ◌+◌, length};
-ghost use Rattle.rules.specs.declared.Record.{Record};
-ghost use Rattle.rules.specs.declared.Marking.{Marking};
-ghost use Rattle.rules.specs.declared.Table.{Table};
-ghost use Rattle.rules.specs.Numbers.{done};
+ghost use Rattle.std.specs.Prelude.{◌≡◌, ◌<◌, List, not};
+ghost use Rattle.rules.specs.declared.Record.{Record as Kept};
+ghost use Rattle.rules.specs.declared.Marking.{Marking as Marked};
+ghost use Rattle.rules.specs.declared.Table.{Table as Tabled};
+ghost use Rattle.rules.specs.Numbers.{◌if◌, done};
+ghost use Rattle.rules.specs.Results.{number_of};
+ghost use Rattle.rules.specs.Enabled.{is_enabled};
 ghost use Rattle.rules.specs.Effect.{effect};
-ghost use Rattle.rules.specs.Happen.{happen_number};
-ghost use Rattle.rules.specs.Shapes.Good.{GoodTable};
-ghost use Rattle.acts.specs.Derived.{head_of, Own};
-ghost use Rattle.acts.specs.Stands.{Stands};
+ghost use Rattle.acts.specs.Derived.{firm_set};
+ghost use Rattle.acts.specs.Words.{RowOf, StandFor};
 
-use crate::derived::Head;
-use crate::laid::Columns;
-use crate::{acting, effect};
+use crate::marking_words::MarkingWords;
+use crate::table_words::Row;
+use rules::Refusal;
 
-// 8, 10: the event is executed if it exists and is enabled. Its row stands from `at` on.
-pub fn happen(
-    rows: &[u64],
-    at: usize,
-    links: &[u64],
-    head: Head,
-    clock: u32,
-    sets: &mut [u64; 4],
-    columns: &mut Columns,
-    event: usize,
-) -> u8
-    requires events_bound { (head.events ≤ 64) × (length links.now ≡ 256) × (clock ≤ 2147483648) }
-    requires at_in_bounds { event < head.events → at + 10 ≤ length rows.now }
-    ensures { (t : Table) (tail : List Record) (m : Marking) → GoodTable t → head ≡ head_of t
-        → (event < t.events → Own t t.count event rows.now at links.now)
-        → Stands t.events tail clock sets.old columns.old m
-        → (result ≡ happen_number t m event) × Stands t.events tail clock sets.new columns.new (done result (effect t m event) m) }
-{
-    if head.events <= event {
-        return 8;
+impl MarkingWords {
+    // An event that exists is executed if it is enabled. It is put into its callers, as `may_act` is.
+    #[inline(always)]
+    pub fn happen(&mut self, row: Row<'_>, e: usize, firm: u64) -> Result<(), Refusal>
+        requires { e < 64 }
+        ensures number { (t : Tabled) (tail : List Kept) (m : Marked) → RowOf t e row.entry → e < t.events
+            → StandFor t.events tail self.old m → number_of result ≡ (10 if not (is_enabled t m e)) }
+        ensures stand { (t : Tabled) (tail : List Kept) (m : Marked) → RowOf t e row.entry → e < t.events → firm ≡ firm_set t.firm
+            → StandFor t.events tail self.old m → StandFor t.events tail self.new (done (number_of result) (effect t m e) m) }
+        ensures clock { self.new.clock ≡ self.old.clock }
+    {
+        if !self.may_act(row, e) {
+            return Err(Refusal::NotEnabled);
+        }
+        self.execute(row, e, firm);
+        Ok(())
     }
-    if acting::may_act(rows, at, links, clock, sets, columns, event) {
-        effect::effect(rows, at, links, clock, sets, columns, event, head.firm);
-        return 0;
-    }
-    10
 }

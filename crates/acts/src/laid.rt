@@ -1,13 +1,15 @@
-// The marking as words, lent: four sets of events, and for each event, in columns, the tick at which its age is full, the tick at which its
+// The marking as words: four sets of events, and for each event, in columns, the tick at which its age is full, the tick at which its
 // deadline is over, and its count. The ticks are told against a clock, so a tick moves the clock and nothing else.
-ghost use Rattle.std.specs.Prelude.{◌≡◌, ◌&&◌, ◌||◌, ℕ, ◌<◌, ◌≤◌, ◌-◌, eqb, length, drop};
+ghost use Rattle.std.specs.Prelude.{◌≡◌, ◌++◌, ◌<◌, ◌≤◌, ◌-◌, length, drop};
 ghost use Rattle.rules.specs.declared.Marking.{Marking as Marked};
-ghost use Rattle.rules.specs.EventSet.{has};
+ghost use Rattle.rules.specs.Counting.{places};
 ghost use Rattle.rules.specs.Holds.{limit};
 ghost use Rattle.rules.specs.Shapes.Good.{GoodMarking};
 ghost use Rattle.acts.specs.Stands.{record_in, age_at, Stands};
+ghost use Rattle.acts.specs.Words.{StandFor};
 
 use crate::event_set;
+use crate::marking_words::MarkingWords;
 use rules::{Marking, Record};
 
 // The places of the sets.
@@ -29,115 +31,104 @@ pub const COUNTS: usize = 128;
 // 64 places for each column.
 pub type Columns = [u32; 192];
 
-// The set, with the event if so.
-fn with_if(set: u64, so: bool, e: usize) -> u64
-    requires { e < 64 }
-    ensures { (x : ℕ) → has result x ≡ (has set x || (so && eqb e x)) }
-{
-    set | ((so as u64) << e)
-}
-
 // How many ticks are left until an age is full.
 fn to_full(age: u32) -> u32
     ensures { result ≡ limit - age }
 {
-    if age < Marking::AGE_LIMIT {
-        return Marking::AGE_LIMIT - age;
-    }
-    0
+    Marking::AGE_LIMIT.saturating_sub(age)
 }
 
-// How many ticks a clock has still to go.
-pub fn to_go(until: u32, clock: u32) -> u32
-    ensures { result ≡ until - clock }
+// The four sets of a judged marking. Its dates and counts go into the columns.
+fn sets_of(m: &Marking, columns: &mut Columns) -> [u64; 4]
+    requires events_bound { m.now.events ≤ 64 }
+    requires columns_len { length columns.old ≡ 192 }
+    ensures { GoodMarking m.now.events m.now → Stands m.now.events (drop m.now.events m.now.records) 0 result columns.new m.now }
 {
-    if clock < until {
-        return until - clock;
-    }
-    0
-}
-
-// A judged marking into words, at tick 0.
-pub fn lay(m: Marking, sets: &mut [u64; 4], columns: &mut Columns)
-    requires events_bound { m.events ≤ 64 }
-    requires sets_len { (length sets.old ≡ 4) × (length columns.old ≡ 192) }
-    ensures { GoodMarking m.events m → Stands m.events (drop m.events m.records) 0 sets.new columns.new m }
-{
-    let n = m.events;
     let mut happened = 0;
     let mut included = 0;
     let mut pending = 0;
     let mut bounded = 0;
-    let mut i = 0;
-    while i < n {
+    for i in 0..m.events {
         let r = m.records[i];
         columns[i] = to_full(r.age);
         columns[DEADLINES + i] = r.deadline;
         columns[COUNTS + i] = r.count;
-        happened = with_if(happened, r.happened, i);
-        included = with_if(included, r.included, i);
-        pending = with_if(pending, r.pending, i);
-        bounded = with_if(bounded, r.bounded, i);
-        i += 1;
+        happened = event_set::with_if(happened, r.happened, i);
+        included = event_set::with_if(included, r.included, i);
+        pending = event_set::with_if(pending, r.pending, i);
+        bounded = event_set::with_if(bounded, r.bounded, i);
     }
-    sets[HAPPENED] = happened;
-    sets[INCLUDED] = included;
-    sets[PENDING] = pending;
-    sets[BOUNDED] = bounded;
+    [happened, included, pending, bounded]
 }
 
-// The age of an event that has happened.
-pub fn age_at(clock: u32, columns: &Columns, e: usize) -> u32
-    requires { e < 64 }
-    ensures { result ≡ age_at clock columns.now e }
-{
-    to_full(to_go(columns[AGES + e], clock))
-}
-
-// The record of event e.
-fn record_at(clock: u32, sets: &[u64; 4], columns: &Columns, e: usize) -> Record
-    requires { e < 64 }
-    ensures { result ≡ record_in clock sets.now columns.now e }
-{
-    let happened = event_set::has_event(sets[HAPPENED], e);
-    let included = event_set::has_event(sets[INCLUDED], e);
-    let pending = event_set::has_event(sets[PENDING], e);
-    let bounded = event_set::has_event(sets[BOUNDED], e);
-    let age = if happened {
-        age_at(clock, columns, e)
-    } else {
-        0
-    };
-    let deadline = if bounded {
-        to_go(columns[DEADLINES + e], clock)
-    } else {
-        0
-    };
-    let count = columns[COUNTS + e];
-    Record {
-        age,
-        deadline,
-        happened,
-        included,
-        pending,
-        bounded,
-        count,
+impl MarkingWords {
+    // A judged marking as words, at tick 0. It is put into its callers, which copy no words then.
+    #[inline(always)]
+    pub fn of(m: &Marking) -> MarkingWords
+        requires { m.now.events ≤ 64 }
+        ensures stand { GoodMarking m.now.events m.now → StandFor m.now.events (drop m.now.events m.now.records) result m.now }
+        ensures clock { result.clock ≡ 0 }
+    {
+        let mut words = MarkingWords {
+            clock: 0,
+            sets: [0; 4],
+            columns: [0; 192],
+        };
+        let sets = sets_of(m, &mut words.columns);
+        words.sets = sets;
+        words
     }
-}
 
-// The marking that the words stand for: that which was laid out, with other records; its unused places are as they were.
-pub fn give(m: Marking, clock: u32, sets: &[u64; 4], columns: &Columns) -> Marking
-    requires { m.events ≤ 64 }
-    ensures { (after : Marked) → Stands m.events (drop m.events m.records) clock sets.now columns.now after
-        → result ≡ after }
-{
-    let n = m.events;
-    let mut records = m.records;
-    let mut i = 0;
-    while i < n {
-        let r = record_at(clock, sets, columns, i);
-        records[i] = r;
-        i += 1;
+    // The age of an event that has happened.
+    pub fn age_at(&self, e: usize) -> u32
+        requires { e < 64 }
+        ensures { result ≡ age_at self.now.clock self.now.columns e }
+    {
+        to_full(self.columns[AGES + e].saturating_sub(self.clock))
     }
-    Marking { records, events: n }
+
+    // The record of event e.
+    fn record_at(&self, e: usize) -> Record
+        requires { e < 64 }
+        ensures { result ≡ record_in self.now.clock self.now.sets self.now.columns e }
+    {
+        let happened = event_set::has_event(self.sets[HAPPENED], e);
+        let bounded = event_set::has_event(self.sets[BOUNDED], e);
+        Record {
+            age: if happened { self.age_at(e) } else { 0 },
+            deadline: if bounded {
+                self.columns[DEADLINES + e].saturating_sub(self.clock)
+            } else {
+                0
+            },
+            happened,
+            included: event_set::has_event(self.sets[INCLUDED], e),
+            pending: event_set::has_event(self.sets[PENDING], e),
+            bounded,
+            count: self.columns[COUNTS + e],
+        }
+    }
+
+    // The records of the first n events, put in the place of others.
+    fn give(&self, records: &mut [Record; 64], n: usize)
+        requires { n ≤ 64 }
+        ensures { records.new ≡ places n (record_in self.now.clock self.now.sets self.now.columns) ++ drop n records.old }
+    {
+        for e in 0..n {
+            records[e] = self.record_at(e);
+        }
+    }
+
+    // The marking that the words stand for: that which was laid out, with other records; its unused places are as they were. It is put
+    // into its callers, which copy no marking besides then.
+    #[inline(always)]
+    pub fn marking(&self, laid_out: &Marking) -> Marking
+        requires { laid_out.now.events ≤ 64 }
+        ensures { (after : Marked) → StandFor laid_out.now.events (drop laid_out.now.events laid_out.now.records) self.now after
+            → result ≡ after }
+    {
+        let mut after = *laid_out;
+        self.give(&mut after.records, laid_out.events);
+        after
+    }
 }

@@ -1,3 +1,4 @@
+pub mod Answered
+pub mod Filling
 pub mod Notes
 pub mod Visiting
-pub mod Filling

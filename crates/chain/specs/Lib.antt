@@ -1,2 +1,3 @@
-pub mod Words
+pub mod Stops
+pub mod Visits
 pub mod Laws

@@ -1,44 +1,27 @@
 // The list of an event that exists, of a judged table and marking.
-ghost use Rattle.std.specs.Prelude.{◌≡◌, ◌++◌, ◌<◌, ◌≤◌, ltb, length, drop};
-ghost use Rattle.rules.specs.Numbers.{◌if◌, ◌else◌};
+ghost use Rattle.std.specs.Prelude.{◌≡◌, ◌++◌, ◌<◌, ◌≤◌, length, drop};
 ghost use Rattle.rules.specs.Holds.{most_relations};
 ghost use Rattle.rules.specs.Chain.{chain, places_of};
 ghost use Rattle.rules.specs.Shapes.Good.{Good};
 
-use crate::visiting::{Walk, visit_event};
-use crate::words::words;
+use crate::stops::{Visits, Walk};
 use rules::{Marking, Table};
 
-// The number so far, else that of a list without room for every relation.
-pub fn then_room(number: u8, room: usize) -> u8
-    ensures { result ≡ (number else 14 if ltb room most_relations) }
-{
-    if number == 0 {
-        if room < Table::MOST_RELATIONS {
-            return 14;
-        }
-    }
-    number
-}
-
 // An excluded event opens nothing.
-pub fn listed(t: Table, m: Marking, event: usize, list: &mut [u16]) -> usize
-    requires good { Good t m × (event < t.events) }
+pub fn listed(t: &Table, m: &Marking, event: usize, list: &mut [u16]) -> usize
+    requires good { Good t.now m.now × (event < t.now.events) }
     requires most_relations_in_bounds { most_relations ≤ length list.old }
-    ensures count { result ≡ length (chain t m event) }
-    ensures list { list.new ≡ places_of (chain t m event) ++ drop (length (chain t m event)) list.old }
+    ensures count { result ≡ length (chain t.now m.now event) }
+    ensures list { list.new ≡ places_of (chain t.now m.now event) ++ drop (length (chain t.now m.now event)) list.old }
 {
-    let r = m.records[event];
-    if !r.included {
+    if !m.records[event].included {
         return 0;
     }
-    let mut next = [256; 320];
-    let mut rights = [0; 256];
-    words(t, m, &mut next, &mut rights);
-    let start = Walk {
+    let visits = Visits::of(t, m);
+    let mut walk = Walk {
         opened: 0,
         count: 0,
     };
-    let end = visit_event(&next, &rights, event as u8, 0, start, list);
-    end.count
+    visits.event(event, 0, &mut walk, list);
+    walk.count
 }

@@ -14,18 +14,18 @@ use Rattle.duties.specs.Inhibition.{Followed, Reached}
 use Rattle.duties.specs.Reasons.{Led}
 use Rattle.duties.specs.Taking.{Awaits}
 
--- `reached` and `with_inhibitors`: each of the two lies in the other
+-- `reached`: each of two lies in the other
 pub reached_once : {word : ℕ → ℕ} {set r s : ℕ} → Reached word set r → Reached word set s → r ≡ s
 reached_once {word} {set} {r} {s} p q =
     same_word r s (λ x. same_test (has r x) (has s x) (p.within (has s) q.starts q.on x) (q.within (has r) p.starts p.on x))
 
--- the words of what is followed, `words`
+-- the words of what is followed, `Following`
 pub followed_once : (t : Table) (n : ℕ) (words others : List ℕ) → Followed t n words → Followed t n others → words ≡ others
 followed_once t n words others p q =
     ext_get_or 0 words others (p.size ∙ sym q.size)
     (λ i l. same_word _ _ (λ x. p.word i (omega (arith, l, p.size)) x ∙ sym (q.word i (omega (arith, l, p.size)) x)))
 
--- `led_to`; `held`, `ready` and `freed` are told by their members alone (acts, `members_once`)
+-- `led_to`; `chosen`, `held`, `ready` and `free` are told by their members alone (acts, `members_once`)
 pub led_once : (rows : List ℕ) (sort set : ℕ) {r s : ℕ} → Led rows sort set r → Led rows sort set s → r ≡ s
 led_once rows sort set {r} {s} p q = same_word r s (λ x. p x ∙ sym (q x))
 

@@ -1,5 +1,6 @@
 -- What the inner functions' promises amount to.
 pub mod Search
+pub mod Position
 pub mod Reached
 pub mod Followed
 pub mod Noted

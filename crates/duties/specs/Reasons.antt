@@ -1,9 +1,10 @@
 -- The reasons of the static check that lie with a relation, as they are looked for in one pass.
-use Rattle.std.specs.Prelude.{◌≡◌, Bool, true, not, ◌&&◌, cond, List, ℕ, eqb, ltb}
+use Rattle.std.specs.Prelude.{◌≡◌, Bool, true, not, ◌&&◌, cond, List, ℕ, Result, Ok, Err, eqb, ltb}
 use Rattle.rules.specs.declared.Relation.{Relation}
 use Rattle.rules.specs.declared.Table.{Table}
-use Rattle.rules.specs.declared.CheckAnswer.{CheckAnswer}
-use Rattle.rules.specs.declared.CheckAnswer.TheVariants.{Accepts, Rejects}
+use Rattle.rules.specs.declared.verdict.Rejection.{Rejection}
+use Rattle.rules.specs.CheckAnswer.{CheckAnswer, Accepts, Rejects}
+use Rattle.rules.specs.Results.{reason_number}
 use Rattle.rules.specs.Counting.{some, lowest}
 use Rattle.rules.specs.EventSet.{has}
 use Rattle.rules.specs.Holds.{is_condition, is_inclusion, relation_of}
@@ -34,11 +35,16 @@ is_reason t kinds lefts rights k = applies kinds lefts rights (relation_of t k)
 unfoldable pub first_reason : Table → ℕ → ℕ → ℕ → ℕ
 first_reason t kinds lefts rights = lowest t.count (is_reason t kinds lefts rights)
 
--- the verdict that a finding comes to, with the relation looked for
-abbrev pub verdict_by : Table → Finding → CheckAnswer
-verdict_by t Finding.Accepts = Accepts
-verdict_by t (Event reason place) = Rejects reason place
-verdict_by t (Finding.Relation reason kinds lefts rights) = Rejects reason (first_reason t kinds lefts rights)
+-- the rejection that a finding comes to, with the relation looked for
+abbrev pub rejection_by : Table → Finding → Rejection
+rejection_by t (Event reason place) = record { reason = reason; place = place }
+rejection_by t (Finding.Relation reason sought) = record { reason = reason; place = first_reason t sought.kinds sought.lefts sought.rights }
+
+-- the verdict that what was found comes to
+module _ {A : Type 0} where
+  abbrev pub verdict_by : Table → Result A Finding → CheckAnswer
+  verdict_by t (Ok _) = Accepts
+  verdict_by t (Err finding) = let rejection = rejection_by t finding in Rejects (reason_number rejection.reason) rejection.place
 
 -- what the reasons after the first say, of a closure
 unfoldable pub verdict_of : Table → ℕ → CheckAnswer

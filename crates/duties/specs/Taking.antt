@@ -2,7 +2,7 @@
 use Rattle.std.specs.Prelude.{◌≡◌, cond, ◌&&◌, List, [], ◌∷◌, ◌++◌, ℕ, ◌<◌, ◌+◌, ◌-◌, length, get_or, set, replicate}
 use Rattle.rules.specs.declared.Table.{Table}
 use Rattle.rules.specs.declared.Marking.{Marking}
-use Rattle.rules.specs.declared.GuardedAnswer.{GuardedAnswer}
+use Rattle.rules.specs.Answers.{GuardedAnswer}
 use Rattle.rules.specs.EventSet.{has}
 use Rattle.rules.specs.Effect.{effect}
 use Rattle.rules.specs.Guard.{goes_ahead}
@@ -44,11 +44,6 @@ carried_on t s (e ∷ rest) = carried_on t (taken_one t s e) rest
 -- the state of a marking, a list of caused events and how many of it count
 abbrev pub state_of : Marking → List ℕ → ℕ → GuardedAnswer
 state_of m caused count = record { number = 0; reason = 0; place = 0; caused = caused; count = count; marking = m }
-
--- an event was taken: the words, which stood for m, stand for a marking that with list and count is the state carried on by it
-abbrev pub TakenOne : Table → Marking → ℕ → List ℕ → ℕ → List ℕ → ℕ → (Marking → Type 0) → Type 0
-TakenOne t m e before count after now stands =
-    (next : Marking) × (stands next) × (state_of next after now ≡ taken_one t (state_of m before count) e)
 
 -- of each event of a set: which events of the set wait for it
 abbrev pub Awaits : List ℕ → ℕ → List ℕ → Type 0

@@ -1,102 +1,126 @@
 // The inhibitors that are followed, by the closure, by the needed set and by the order of taking: of one event; as words, one for each event,
 // made of the rows or of the relations themselves; what a set reaches by such words; and so the closure.
-ghost use Rattle.std.specs.Prelude.{◌≡◌, List, ℕ, ◌<◌, ◌≤◌, length, replicate};
+ghost use Rattle.std.specs.Prelude.{◌≡◌, List, ℕ, ◌<◌, ◌≤◌};
 ghost use Rattle.rules.specs.declared.Record.{Record};
 ghost use Rattle.rules.specs.declared.Marking.{Marking};
-ghost use Rattle.rules.specs.declared.Table.{Table};
+ghost use Rattle.rules.specs.declared.Table.{Table as Tabled};
 ghost use Rattle.rules.specs.Closure.{followed as isFollowed, closure as closureOf};
 ghost use Rattle.rules.specs.Shapes.Good.{GoodTable};
-ghost use Rattle.acts.specs.Derived.{Derived};
-ghost use Rattle.acts.specs.Stands.{Stands};
-ghost use Rattle.duties.specs.Inhibition.{followed_in, word_of, Followed, Answers, words_noted, answers_noted, Reached};
+ghost use Rattle.acts.specs.Words.{RowsOf, StandFor};
+ghost use Rattle.duties.specs.Inhibition.{followed_in, word_of, words_noted, answers_noted, Reached, FollowingOf, is_answer};
 
-use acts::{derived, laid, word};
-use rules::Relation;
-
-// Every event, whether it exists or not.
-pub const EVERY: u64 = 0xffff_ffff_ffff_ffff;
+use acts::events::Events;
+use acts::marking_words::MarkingWords;
+use acts::table_words::Rows;
+use acts::{derived, event_set, laid};
+use rules::{Relation, Table};
 
 // The inhibitors of e that are followed: the right events of its conditions, if in the one set, and of its milestones, if in the other.
-pub fn followed(rows: &[u64], conditions: u64, milestones: u64, e: usize) -> u64
-    requires rows_len { length rows.now ≡ 640 }
-    requires e_bound { e < 64 }
-    ensures { result ≡ followed_in rows.now conditions milestones e }
+pub fn followed(rows: &Rows, conditions: u64, milestones: u64, e: usize) -> u64
+    requires { e < 64 }
+    ensures { result ≡ followed_in rows.now.words conditions milestones e }
 {
     let at = derived::WIDTH * e;
-    let waits = rows[at + derived::CONDITION] | rows[at + derived::TIMED];
-    let awaits = rows[at + derived::MILESTONE];
+    let waits = rows.words[at + derived::CONDITION] | rows.words[at + derived::TIMED];
+    let awaits = rows.words[at + derived::MILESTONE];
     (waits & conditions) | (awaits & milestones)
 }
 
-// The words of n events, of their rows.
-pub fn words(rows: &[u64], n: usize, words: &mut [u64; 64])
-    requires { (n ≤ 64) × (length rows.now ≡ 640) × (words.old ≡ replicate 64 0) }
-    ensures { (t : Table) → GoodTable t → Derived t t.count rows.now → t.events ≡ n
-        → Followed t t.count words.new }
+// A relation is followed to its right event: a condition, or a milestone.
+fn is_followed(k: &Relation) -> bool
+    ensures { result ≡ isFollowed k.now }
 {
-    let mut e = 0;
-    while e < n {
-        words[e] = followed(rows, EVERY, EVERY, e);
-        e += 1;
-    }
+    matches!(k.kind, 1 | 5)
 }
 
-// A relation is followed to its right event.
-fn is_followed(k: Relation) -> bool
-    ensures { result ≡ isFollowed k }
+// The right event of a bounded response answers.
+fn answers(k: &Relation) -> bool
+    ensures { result ≡ is_answer k.now }
 {
-    if k.kind == 1 {
-        return true;
-    }
-    k.kind == 5
+    k.kind == 2 && k.bounded
 }
 
-// One relation more: if it is followed, it is noted in the word of its left event.
-pub fn note(words: &mut [u64; 64], k: Relation)
-    requires { (length words.old ≡ 64) × (k.left < 64) × (k.right < 64) }
-    ensures { words.new ≡ words_noted words.old k }
-{
-    if is_followed(k) {
-        let e = k.left as usize;
-        words[e] = word::adding(words[e], k.right as usize);
-    }
-}
-
-// One relation more: the right event of a bounded response answers.
-pub fn answering(answers: u64, k: Relation) -> u64
-    requires { k.right < 64 }
-    ensures { result ≡ answers_noted answers k }
-{
-    if k.kind == 2 {
-        if k.bounded {
-            return word::adding(answers, k.right as usize);
-        }
-    }
-    answers
-}
-
-// A set and, repeatedly, the events in the words of its events: each event is opened once, so each word is looked at once.
-pub fn reached(words: &[u64; 64], set: u64) -> u64
-    ensures { Reached (word_of words.now) set result }
+// A set and, repeatedly, the events that each of its events leads to: each is opened once, so what it leads to is asked once.
+pub fn reached<F: Fn(usize) -> u64>(leads: F, set: u64) -> u64
+    requires { (e : ℕ) → e < 64 → F.pre leads e }
+    ensures { (word : ℕ → ℕ) → ((e w : ℕ) → e < 64 → F.post leads e w → w ≡ word e) → Reached word set result }
 {
     let mut found = set;
-    let mut unopened = set;
-    while unopened != 0 {
-        let e = word::lowest(unopened);
-        let more = word::without(words[e], found);
-        found = found | more;
-        unopened = (unopened - (1 << e)) | more;
+    let mut unopened = Events::of(set);
+    while let Some(e) = unopened.next() {
+        let more = event_set::without(leads(e), found);
+        found |= more;
+        unopened.left |= more;
     }
     found
 }
 
-// The busy events and, repeatedly, their inhibitors; of n events. What is owed is busy, and what answers a bounded response.
-pub fn closure(words: &[u64; 64], answers: u64, sets: &[u64; 4], n: usize) -> u64
-    requires { (0 < n) × (n ≤ 64) }
-    ensures { (t : Table) (tail : List Record) (clock : ℕ) (columns : List ℕ) (m : Marking) → GoodTable t
-        → Followed t t.count words.now → Answers t t.count answers → t.events ≡ n
-        → Stands n tail clock sets.now columns m → result ≡ closureOf t m }
-{
-    let owed = sets[laid::PENDING] & sets[laid::BOUNDED] & word::first(n);
-    reached(words, owed | answers)
+// What is followed, a word for each event; and the events that answer a bounded response.
+#[derive(Clone, Copy)]
+pub struct Following {
+    pub words: [u64; 64],
+    pub answers: u64,
+}
+
+impl Following {
+    const NONE: Following = Following {
+        words: [0; 64],
+        answers: 0,
+    };
+
+    // Of the relations themselves, in one pass.
+    pub fn of(t: &Table) -> Following
+        requires { GoodTable t.now }
+        ensures { FollowingOf t.now result }
+    {
+        let mut following = Following::NONE;
+        for k in &t.relations[..t.count] {
+            following.note(k);
+        }
+        following
+    }
+
+    // Of the rows.
+    pub fn of_rows(rows: &Rows) -> Following
+        ensures { (t : Tabled) → RowsOf t rows.now → FollowingOf t result }
+    {
+        let mut following = Following::NONE;
+        for e in 0..rows.head.events {
+            following.words[e] = followed(rows, u64::MAX, u64::MAX, e);
+            following.answers |= rows.words[derived::WIDTH * e + derived::BOUNDED];
+        }
+        following
+    }
+
+    // One relation more.
+    fn note(&mut self, k: &Relation)
+        requires { (k.now.left < 64) × (k.now.right < 64) }
+        ensures words { self.new.words ≡ words_noted self.old.words k.now }
+        ensures answers { self.new.answers ≡ answers_noted self.old.answers k.now }
+    {
+        if is_followed(k) {
+            let e = k.left as usize;
+            self.words[e] = event_set::adding(self.words[e], k.right as usize);
+        }
+        if answers(k) {
+            self.answers = event_set::adding(self.answers, k.right as usize);
+        }
+    }
+
+    // The set and, repeatedly, the events in the words of its events.
+    pub fn reached(&self, set: u64) -> u64
+        ensures { Reached (word_of self.now.words) set result }
+    {
+        reached(|e| self.words[e], set)
+    }
+
+    // The busy events and, repeatedly, their inhibitors; of n events. What is owed is busy, and what answers a bounded response.
+    pub fn closure(&self, marking: &MarkingWords, n: usize) -> u64
+        requires { (0 < n) × (n ≤ 64) }
+        ensures { (t : Tabled) (tail : List Record) (m : Marking) → FollowingOf t self.now → t.events ≡ n
+            → StandFor n tail marking.now m → result ≡ closureOf t m }
+    {
+        let owed = marking.sets[laid::PENDING] & marking.sets[laid::BOUNDED] & event_set::first(n);
+        self.reached(owed | self.answers)
+    }
 }

@@ -2,6 +2,7 @@
 // It is named by crates of the engine alone.
 #![tactic(auto)]
 
+pub mod chosen;
 pub mod following;
 pub mod guard;
 pub mod inhibition;

@@ -13,9 +13,8 @@ use borrow.Author.Tests.{eqb-true, le-ltb}
 use Rattle.rules.specs.declared.Table.{Table}
 use Rattle.rules.specs.declared.Marking.{Marking}
 use Rattle.rules.specs.declared.Step.{Step}
-use Rattle.rules.specs.declared.MarkingAnswer.{MarkingAnswer}
-use Rattle.rules.specs.declared.ToldCheck.{ToldCheck}
-use Rattle.rules.specs.declared.CheckAnswer.TheVariants.{Accepts}
+use Rattle.rules.specs.Answers.{MarkingAnswer, ToldCheck}
+use Rattle.rules.specs.CheckAnswer.{Accepts}
 use Rattle.rules.specs.Numbers.{◌else◌, done, check_number}
 use Rattle.rules.specs.Judge.{judged}
 use Rattle.rules.specs.Image.{marking_image}

@@ -9,9 +9,7 @@ use lib.Dec.{ltb}
 use lib.ListN.{length, get_or}
 use Rattle.rules.specs.declared.Table.{Table}
 use Rattle.rules.specs.declared.Marking.{Marking}
-use Rattle.rules.specs.declared.ToldMargin.{ToldMargin}
-use Rattle.rules.specs.declared.ToldHoldUp.{ToldHoldUp}
-use Rattle.rules.specs.declared.ToldCheck.{ToldCheck}
+use Rattle.rules.specs.Answers.{ToldMargin, ToldHoldUp, ToldCheck}
 use Rattle.rules.specs.Numbers.{◌if◌, ◌else◌}
 use Rattle.rules.specs.Image.{record_bytes, fresh as freshMarking}
 use Rattle.rules.specs.Margin.{told_margin}

@@ -8,9 +8,8 @@ use lib.ListN.{length, get_or, take, drop_of_length-le}
 use borrow.Author.Tests.{eqb-false, le-ltb}
 use Rattle.rules.specs.declared.Table.{Table}
 use Rattle.rules.specs.declared.Marking.{Marking}
-use Rattle.rules.specs.declared.GuardedAnswer.{GuardedAnswer}
-use Rattle.rules.specs.declared.SleptAnswer.{SleptAnswer}
-use Rattle.rules.specs.declared.CheckAnswer.TheVariants.{Accepts}
+use Rattle.rules.specs.Answers.{GuardedAnswer, SleptAnswer}
+use Rattle.rules.specs.CheckAnswer.{Accepts}
 use Rattle.rules.specs.Numbers.{◌else◌, done, check_number}
 use Rattle.rules.specs.Holds.{most_events}
 use Rattle.rules.specs.Judge.{judged}

@@ -3,10 +3,9 @@ pub mod Images
 pub mod Kept
 pub mod ReadBack
 pub mod Answered
+pub mod Checked
 pub mod Guarded
-pub mod Offered
-pub mod Placed
 pub mod Told
-pub mod Recorded
+pub mod Offered
 pub mod Held
 pub mod Made

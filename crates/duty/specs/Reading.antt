@@ -1,7 +1,31 @@
--- What is read of a table image and a marking image, as the code holds it.
-use Rattle.std.specs.Prelude.{List, ℕ}
-use Rattle.rules.specs.Images.{table_of, marking_of, images_number}
+-- What is read of a table image and a marking image, as the code holds it; how a refusal is handed on, and what a call of a rule answers.
+use Rattle.std.specs.Prelude.{◌≡◌, List, ℕ, Result, Err}
+use Rattle.std.specs.Fn.{Once}
+use denote.Ref.{Bor, MutBor}
+use Rattle.rules.specs.declared.refusal.Refusal.{Refusal}
+use Rattle.rules.specs.Results.{refusal_number}
+use Rattle.rules.specs.Images.{table_of, marking_of}
 use Rattle.duty.specs.declared.images.Images.{Images}
 
-unfoldable pub images : List ℕ → List ℕ → Images
-images table marking = record { number = images_number table marking; table = table_of table; marking = marking_of table marking }
+abbrev pub images : List ℕ → List ℕ → Images
+images table marking = record { table = table_of table; marking = marking_of table marking }
+
+-- an error that is made of the refusal with this number
+pub record Refuses {A E : Type 0} (given : Refusal → E → Type 0) (number : ℕ) (result : Result A E) : Type 0 where
+  pub refusal : Refusal
+  pub numbered : refusal_number refusal ≡ number
+  pub error : E
+  pub made : given refusal error
+  pub is : result ≡ Err error
+
+-- a call at a reference to images and at a lent list may give r, and leave that list
+pub record ReturnsLent {F R T : Type 0}
+    (g : Once F (Bor Images × (MutBor (List T) × Unit {0})) (R × (MutBor (List T) × Unit {0}))) (f : F) (i : Images) (before : List T) (r : R) (after : List T)
+    : Type 0 where
+  pub shown : Bor Images
+  pub shows : shown.now ≡ i
+  pub lent : MutBor (List T)
+  pub lends : lent.now ≡ before
+  pub left : MutBor (List T)
+  pub met : g.post f (shown, (lent, tt)) (r, (left, tt))
+  pub leaves : left.now ≡ after

@@ -1,33 +1,26 @@
 // The acting calls: the new marking is put back where the old one came.
-ghost use Rattle.std.specs.Prelude.{◌≡◌};
-ghost use Rattle.rules.specs.Numbers.{◌else◌};
-ghost use Rattle.rules.specs.Images.{put_back};
-ghost use Rattle.duty.specs.Performing.{Fills};
+ghost use Rattle.std.specs.Prelude.{◌≡◌, length};
+ghost use Rattle.rules.specs.Image.{marking_image};
+ghost use Rattle.duty.specs.Performing.{Fills, written_number, written};
 
-use rules::MarkingAnswer;
+use super::telling;
+use rules::{Marking, Refusal};
 
 // A refusal leaves every byte.
-pub fn put_back(answer: MarkingAnswer, marking: &mut [u8]) -> u8
-    requires { Fills answer.marking marking.old }
-    ensures number { result ≡ answer.number }
-    ensures bytes { marking.new ≡ put_back answer.number answer.marking marking.old }
+pub fn put_back(answer: &Result<Marking, Refusal>, marking: &mut [u8]) -> u8
+    ensures number { result ≡ written_number answer.now (length marking.old) }
+    ensures bytes { marking.new ≡ written answer.now marking.old }
 {
-    let number = answer.number;
-    if number == 0 {
-        let m = answer.marking;
-        image::write_marking(m, marking);
+    match answer {
+        Ok(after) => telling::number(&image::write_marking(after, marking)),
+        Err(refusal) => u8::from(*refusal),
     }
-    number
 }
 
-// The same behind the number of reading the images: a refused reading leaves every byte too.
-pub fn put_back_read(first: u8, answer: MarkingAnswer, marking: &mut [u8]) -> u8
-    requires { first ≡ 0 → Fills answer.marking marking.old }
-    ensures number { result ≡ (first else answer.number) }
-    ensures bytes { marking.new ≡ put_back result answer.marking marking.old }
+// A marking that fills the buffer is written whole; its image is never refused.
+pub fn put(after: &Marking, marking: &mut [u8])
+    requires { Fills after.now marking.old }
+    ensures { marking.new ≡ marking_image after.now }
 {
-    if first == 0 {
-        return put_back(answer, marking);
-    }
-    first
+    let _ = image::write_marking(after, marking);
 }

@@ -1,26 +1,32 @@
-// The caused events into a lent buffer.
-ghost use Rattle.std.specs.Prelude.{◌≡◌, ◌++◌, ◌≤◌, ltb, length, take, drop};
-ghost use Rattle.rules.specs.Numbers.{◌if◌};
-ghost use Rattle.rules.specs.Holds.{most_events};
+// A guarded tick whose caused events go into a lent buffer.
+ghost use Rattle.std.specs.Prelude.{◌≡◌, ◌≢◌};
+ghost use Rattle.rules.specs.declared.verdict.CheckError.TheVariants.{Refused};
+ghost use Rattle.rules.specs.Results.{as_guarded};
+ghost use Rattle.rules.specs.Guard.{guarded_tick};
+ghost use Rattle.rules.specs.Images.{marking_of, on, guard_number};
+ghost use Rattle.duty.specs.Reading.{Refuses};
 
-use rules::Table;
+use super::images::{self, Images};
+use rules::{CheckError, Guarded, Refusal};
 
-// Each event is caused at most once, so there is room where the buffer has a byte for each.
-pub fn room(events: usize, bytes: usize) -> u8
-    ensures { result ≡ 14 if ltb bytes events }
+// In a frame of its own, beside that of the reading.
+#[inline(never)]
+fn ticked(i: &Images) -> Result<Guarded, CheckError>
+    ensures { as_guarded i.now.marking result ≡ guarded_tick i.now.table i.now.marking }
 {
-    if bytes < events { 14 } else { 0 }
+    engine::guarded_tick(&i.table, &i.marking)
 }
 
-// The first `count` places to the start of the buffer.
-pub fn put_first(list: [u8; Table::MOST_EVENTS], count: usize, buffer: &mut [u8])
-    requires count_le_most_events { count ≤ most_events }
-    requires count_in_bounds { count ≤ length buffer.old }
-    ensures { buffer.new ≡ take count list ++ drop count buffer.old }
+// Each event is caused at most once, so there is room where the buffer has a byte for each.
+pub fn guarded_tick(table: &[u8], marking: &[u8], room: usize) -> Result<Guarded, CheckError>
+    ensures early { let number = guard_number table.now marking.now room in
+        number ≢ 0 → Refuses (λ refusal error. error ≡ Refused refusal) number result }
+    ensures ticked { guard_number table.now marking.now room ≡ 0
+        → as_guarded (marking_of table.now marking.now) result ≡ on guarded_tick table.now marking.now }
 {
-    let mut i = 0;
-    while i < count {
-        buffer[i] = list[i];
-        i += 1;
+    let i = images::read(table, marking)?;
+    if room < i.table.events {
+        return Err(CheckError::Refused(Refusal::Room));
     }
+    ticked(&i)
 }

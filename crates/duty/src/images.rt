@@ -1,35 +1,82 @@
-// The images that a call is handed.
-ghost use Rattle.std.specs.Prelude.{◌≡◌};
-ghost use Rattle.rules.specs.Numbers.{◌else◌};
-ghost use Rattle.duty.specs.Reading.{images};
+// The images that a call is handed, and what a rule answers of them.
+ghost use Rattle.std.specs.Prelude.{◌≡◌, ◌≢◌, IfOk};
+ghost use Rattle.std.specs.Fn.{FnOnceReturnsAt};
+ghost use Rattle.rules.specs.Results.{number_of};
+ghost use Rattle.rules.specs.Images.{images_number};
+ghost use Rattle.duty.specs.Reading.{images, Refuses, ReturnsLent};
 
-use rules::{Marking, Table};
+use rules::{Marking, Refusal, Table};
 
-// What is read of them, and the number of reading them, 0 for done.
-#[derive(Clone, Copy)]
+#[derive(Drop)]
 pub struct Images {
     pub table: Table,
     pub marking: Marking,
-    pub number: u8,
 }
 
-pub fn first_of(a: u8, b: u8) -> u8
-    ensures { result ≡ (a else b) }
+// Both are read, the table first. What is copied here is let go before a rule is asked.
+#[inline(never)]
+pub fn read(table: &[u8], marking: &[u8]) -> Result<Images, Refusal>
+    ensures number { number_of result ≡ images_number table.now marking.now }
+    ensures both { IfOk result (λ i. i ≡ images table.now marking.now) }
 {
-    if a == 0 { b } else { a }
+    let table = image::read_table(table)?;
+    let marking = image::read_marking(table.events, marking)?;
+    Ok(Images { table, marking })
 }
 
-// Both are read. A refused table has no events, for which no marking is read.
-pub fn read(table: &[u8], marking: &[u8]) -> Images
-    ensures { result ≡ images table.now marking.now }
+// A rule has a frame of its own, beside that of the reading: C is promised how much stack a call takes.
+#[inline(never)]
+fn ask<A, E, F: FnOnce(&Images) -> Result<A, E>>(rule: F, images: &Images) -> Result<A, E>
+    requires { F.IsAlwaysCallable rule }
+    ensures { FnOnceReturnsAt F.FnOnce rule images.now result }
 {
-    let first = image::read_table(table);
-    let t = first.table;
-    let second = image::read_marking(t.events, marking);
-    let m = second.marking;
-    Images {
-        number: first_of(first.number, second.number),
-        table: t,
-        marking: m,
+    rule(images)
+}
+
+#[inline(never)]
+fn ask_lent<A, E, T, F: FnOnce(&Images, &mut [T]) -> Result<A, E>>(
+    rule: F,
+    images: &Images,
+    list: &mut [T],
+) -> Result<A, E>
+    requires { F.IsAlwaysCallable rule }
+    ensures { ReturnsLent F.FnOnce rule images.now list.old result list.new }
+{
+    rule(images, list)
+}
+
+// A rule is asked of what is read, and of nothing where reading is refused. The images stay where they are, for the stack that C is promised.
+pub fn on<A, E: From<Refusal>, F: FnOnce(&Images) -> Result<A, E>>(
+    table: &[u8],
+    marking: &[u8],
+    rule: F,
+) -> Result<A, E>
+    requires { F.IsAlwaysCallable rule }
+    ensures unread { images_number table.now marking.now ≢ 0 → Refuses E.from_gives (images_number table.now marking.now) result }
+    ensures ruled { images_number table.now marking.now ≡ 0
+        → FnOnceReturnsAt F.FnOnce rule (images table.now marking.now) result }
+{
+    match &read(table, marking) {
+        Ok(images) => ask(rule, images),
+        Err(refusal) => Err(E::from(*refusal)),
+    }
+}
+
+// The same of a rule that is lent a list besides.
+pub fn on_lent<A, E: From<Refusal>, T, F: FnOnce(&Images, &mut [T]) -> Result<A, E>>(
+    table: &[u8],
+    marking: &[u8],
+    list: &mut [T],
+    rule: F,
+) -> Result<A, E>
+    requires { F.IsAlwaysCallable rule }
+    ensures unread { images_number table.now marking.now ≢ 0 → Refuses E.from_gives (images_number table.now marking.now) result }
+    ensures left { images_number table.now marking.now ≢ 0 → list.new ≡ list.old }
+    ensures ruled { images_number table.now marking.now ≡ 0
+        → ReturnsLent F.FnOnce rule (images table.now marking.now) list.old result list.new }
+{
+    match &read(table, marking) {
+        Ok(images) => ask_lent(rule, images, list),
+        Err(refusal) => Err(E::from(*refusal)),
     }
 }

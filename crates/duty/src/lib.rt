@@ -9,8 +9,6 @@ mod guarding;
 mod images;
 mod offering;
 mod placing;
-mod recording;
-mod tabling;
 mod telling;
 mod verdict;
 
@@ -43,7 +41,7 @@ use rules::Marking;
 pub extern "C" fn duty_judge(table: &[u8], marking: &[u8]) -> u8
     ensures { result ≡ images_number table.now marking.now }
 {
-    images::read(table, marking).number
+    telling::number(&images::read(table, marking))
 }
 
 // A fresh marking's image, into the first bytes of the buffer.
@@ -53,12 +51,7 @@ pub extern "C" fn duty_fresh(events: usize, marking: &mut [u8]) -> u8
     ensures marking { marking.new ≡ done result (marking_image (fresh events).marking ++ drop (record_bytes * events) marking.old)
         marking.old }
 {
-    let made = Marking::fresh(events);
-    if made.number == 0 {
-        let m = made.marking;
-        return image::write_marking(m, marking);
-    }
-    made.number
+    acting::put_back(&Marking::fresh(events), marking)
 }
 
 // An image of the time before counts, carried over into the first bytes of the buffer.
@@ -67,7 +60,7 @@ pub extern "C" fn duty_carry(events: usize, old: &[u8], marking: &mut [u8]) -> u
     ensures number { result ≡ carry_number events old.now (length marking.old) }
     ensures marking { marking.new ≡ carry_marking events old.now marking.old }
 {
-    image::carry_marking(events, old, marking)
+    telling::number(&image::carry_marking(events, old, marking))
 }
 
 // A table's image, built from plain numbers: firm, 0 or 1, a class byte for each event, five numbers for each relation.
@@ -82,25 +75,7 @@ pub extern "C" fn duty_write_table(
     ensures number { result ≡ build_number events firm classes.now relations.now (length table.old) }
     ensures table { table.new ≡ build events firm classes.now relations.now table.old }
 {
-    if 1 < firm {
-        return 2;
-    }
-    let number = building::counts_number(events, classes.len(), relations.len());
-    if number != 0 {
-        return number;
-    }
-    let sets = building::classes_from(classes);
-    if sets.number != 0 {
-        return sets.number;
-    }
-    let t = building::table_from(
-        events,
-        firm == 1,
-        sets.controllable,
-        sets.causable,
-        relations,
-    );
-    image::write_table(t, table)
+    telling::number(&building::write(events, firm, classes, relations, table))
 }
 
 // A relation of a table: its five numbers.
@@ -109,15 +84,7 @@ pub extern "C" fn duty_relation(table: &[u8], relation: usize, numbers: &mut [u3
     ensures number { result ≡ relation_told_number table.now relation (length numbers.old) }
     ensures numbers { numbers.new ≡ relation_told table.now relation numbers.old }
 {
-    let read = image::read_table(table);
-    let t = read.table;
-    let asked = asking::number(t.count, relation, numbers.len(), 5);
-    let number = images::first_of(read.number, asked);
-    if number == 0 {
-        let k = t.relations[relation];
-        tabling::put_numbers(k, numbers);
-    }
-    number
+    placing::tell(asking::relation(table, relation), numbers)
 }
 
 // The class of an event: its byte, as the image has it.
@@ -126,13 +93,7 @@ pub extern "C" fn duty_class(table: &[u8], event: usize, byte: &mut u8) -> u8
     ensures number { result ≡ class_told_number table.now event }
     ensures byte { byte.new ≡ done result (class_byte (table_of table.now) event) byte.old }
 {
-    let read = image::read_table(table);
-    let t = read.table;
-    let number = images::first_of(read.number, asking::missing(t.events, event));
-    if number == 0 {
-        *byte = table[4 + event];
-    }
-    number
+    telling::tell(asking::class(table, event), byte)
 }
 
 // Whether the table is firm: 1, or 0.
@@ -141,11 +102,7 @@ pub extern "C" fn duty_firm(table: &[u8], firm: &mut u32) -> u8
     ensures number { result ≡ (read_table table.now).number }
     ensures firm { firm.new ≡ done result (bit (table_of table.now).firm) firm.old }
 {
-    let read = image::read_table(table);
-    if read.number == 0 {
-        *firm = read.table.firm as u32;
-    }
-    read.number
+    telling::tell(asking::firm(table), firm)
 }
 
 // The record of an event: its seven fields, in the image's order.
@@ -154,16 +111,7 @@ pub extern "C" fn duty_record(table: &[u8], marking: &[u8], event: usize, fields
     ensures number { result ≡ fields_number table.now marking.now event (length fields.old) }
     ensures fields { fields.new ≡ fields_told table.now marking.now event fields.old }
 {
-    let read = images::read(table, marking);
-    let t = read.table;
-    let m = read.marking;
-    let asked = asking::number(t.events, event, fields.len(), 7);
-    let number = images::first_of(read.number, asked);
-    if number == 0 {
-        let r = m.records[event];
-        recording::put_fields(r, fields);
-    }
-    number
+    placing::tell(asking::record(table, marking, event), fields)
 }
 
 // How many events a set holds.
@@ -190,15 +138,10 @@ pub extern "C" fn duty_enabled(table: &[u8], marking: &[u8], event: usize, enabl
     ensures enabled { enabled.new ≡ done result (bit (on enabled_answer table.now marking.now event).enabled)
         enabled.old }
 {
-    let read = images::read(table, marking);
-    let t = read.table;
-    let m = read.marking;
-    let answer = engine::enabled(t, m, event);
-    let number = images::first_of(read.number, answer.number);
-    if number == 0 {
-        *enabled = answer.enabled as u8;
-    }
-    number
+    let answer = images::on(table, marking, |i| {
+        engine::enabled(&i.table, &i.marking, event)
+    });
+    telling::tell(answer.map(u8::from), enabled)
 }
 
 // The due events.
@@ -208,15 +151,8 @@ pub extern "C" fn duty_due(table: &[u8], marking: &[u8], set: &mut u64) -> u8
         ≡ (images_number table.now marking.now else (on due_answer table.now marking.now).number) }
     ensures set { set.new ≡ done result (on due_answer table.now marking.now).set set.old }
 {
-    let read = images::read(table, marking);
-    let t = read.table;
-    let m = read.marking;
-    let answer = engine::due(t, m);
-    let number = images::first_of(read.number, answer.number);
-    if number == 0 {
-        *set = answer.set;
-    }
-    number
+    let answer = images::on(table, marking, |i| engine::due(&i.table, &i.marking));
+    telling::tell(answer, set)
 }
 
 // An event happens: whatever its class, it is executed, if enabled.
@@ -226,10 +162,10 @@ pub extern "C" fn duty_happen(table: &[u8], marking: &mut [u8], event: usize) ->
         ≡ (images_number table.now marking.old else (on happen table.now marking.old event).number) }
     ensures marking { marking.new ≡ put_back result (on happen table.now marking.old event).marking marking.old }
 {
-    let read = images::read(table, &marking[..]);
-    let t = read.table;
-    let m = read.marking;
-    acting::put_back_read(read.number, engine::happen(t, m, event), marking)
+    let answer = images::on(table, &marking[..], |i| {
+        engine::happen(&i.table, &i.marking, event)
+    });
+    acting::put_back(&answer, marking)
 }
 
 // One tick passes, unless an event is due.
@@ -239,10 +175,10 @@ pub extern "C" fn duty_plain_tick(table: &[u8], marking: &mut [u8]) -> u8
         ≡ (images_number table.now marking.old else (on plain_tick table.now marking.old).number) }
     ensures marking { marking.new ≡ put_back result (on plain_tick table.now marking.old).marking marking.old }
 {
-    let read = images::read(table, &marking[..]);
-    let t = read.table;
-    let m = read.marking;
-    acting::put_back_read(read.number, engine::plain_tick(t, m), marking)
+    let answer = images::on(table, &marking[..], |i| {
+        engine::plain_tick(&i.table, &i.marking)
+    });
+    acting::put_back(&answer, marking)
 }
 
 // The margin of a condition: its kind, and the ticks.
@@ -259,17 +195,10 @@ pub extern "C" fn duty_margin(
     ensures kind { kind.new ≡ done result (on told_margin table.now marking.now relation).kind kind.old }
     ensures ticks { ticks.new ≡ done result (on told_margin table.now marking.now relation).ticks ticks.old }
 {
-    let read = images::read(table, marking);
-    let t = read.table;
-    let m = read.marking;
-    let told = telling::margin(engine::margin(t, m, relation));
-    let number = images::first_of(read.number, told.number);
-    if number == 0 {
-        *kind = told.kind;
-        let by = told.ticks;
-        *ticks = by;
-    }
-    number
+    let answer = images::on(table, marking, |i| {
+        engine::margin(&i.table, &i.marking, relation)
+    });
+    telling::tell_both(answer.map(telling::margin), kind, ticks)
 }
 
 // What holds an event up: its kind, and the relation.
@@ -287,16 +216,10 @@ pub extern "C" fn duty_hold_up(
     ensures relation { relation.new ≡ done result
         (on told_hold_up table.now marking.now event).relation relation.old }
 {
-    let read = images::read(table, marking);
-    let t = read.table;
-    let m = read.marking;
-    let told = telling::hold_up(engine::hold_up(t, m, event));
-    let number = images::first_of(read.number, told.number);
-    if number == 0 {
-        *kind = told.kind;
-        *relation = told.relation;
-    }
-    number
+    let answer = images::on(table, marking, |i| {
+        engine::hold_up(&i.table, &i.marking, event)
+    });
+    telling::tell_both(answer.map(telling::hold_up), kind, relation)
 }
 
 // Every relation that stands in an event's way, into the first places of the list: 256 times its number, and its depth; and how many.
@@ -315,17 +238,10 @@ pub extern "C" fn duty_chain(
     ensures count { count.new ≡ done result
         (on chain_answer table.now marking.now event (length list.old)).count count.old }
 {
-    let read = images::read(table, marking);
-    let t = read.table;
-    let m = read.marking;
-    if read.number == 0 {
-        let answer = chain::chain(t, m, event, list);
-        if answer.number == 0 {
-            *count = answer.count;
-        }
-        return answer.number;
-    }
-    read.number
+    let answer = images::on_lent(table, marking, list, |i, list| {
+        chain::chain(&i.table, &i.marking, event, list)
+    });
+    telling::tell(answer, count)
 }
 
 // The closure and its size, also where the check rejects.
@@ -336,16 +252,8 @@ pub extern "C" fn duty_closure(table: &[u8], marking: &[u8], set: &mut u64, size
     ensures set { set.new ≡ done result (on closure_answer table.now marking.now).set set.old }
     ensures size { size.new ≡ done result (on closure_answer table.now marking.now).size size.old }
 {
-    let read = images::read(table, marking);
-    let t = read.table;
-    let m = read.marking;
-    let answer = engine::closure(t, m);
-    let number = images::first_of(read.number, answer.number);
-    if number == 0 {
-        *set = answer.set;
-        *size = answer.size;
-    }
-    number
+    let answer = images::on(table, marking, |i| engine::closure(&i.table, &i.marking));
+    telling::tell_both(answer.map(telling::closure), set, size)
 }
 
 // The static check: reason and place, where the images are read.
@@ -358,16 +266,8 @@ pub extern "C" fn duty_check(table: &[u8], marking: &[u8], reason: &mut u8, plac
     ensures place { place.new ≡ done (images_number table.now marking.now)
         (on told_check table.now marking.now).place place.old }
 {
-    let read = images::read(table, marking);
-    let t = read.table;
-    let m = read.marking;
-    let told = telling::check(engine::check(t, m));
-    if read.number == 0 {
-        *reason = told.reason;
-        *place = told.place;
-        return told.number;
-    }
-    read.number
+    let answer = images::on(table, marking, |i| engine::check(&i.table, &i.marking));
+    verdict::tell(&answer, reason, place)
 }
 
 // The needed events are executed in order and one tick passes, unless the check rejects.
@@ -393,24 +293,13 @@ pub extern "C" fn duty_guarded_tick(
     ensures place { place.new ≡ done (guard_number table.now marking.old (length caused.old))
         (on guarded_tick table.now marking.old).place place.old }
 {
-    let read = images::read(table, &marking[..]);
-    let t = read.table;
-    let m = read.marking;
-    let number = images::first_of(read.number, guarding::room(t.events, caused.len()));
-    if number == 0 {
-        let answer = engine::guarded_tick(t, m);
-        *reason = answer.reason;
-        *place = answer.place;
-        if answer.number == 0 {
-            let list = answer.caused;
-            *count = answer.count;
-            guarding::put_first(list, answer.count, caused);
-            let after = answer.marking;
-            image::write_marking(after, marking);
-        }
-        return answer.number;
+    let answer = guarding::guarded_tick(table, &marking[..], caused.len());
+    if let Ok(guarded) = &answer {
+        *count = guarded.count;
+        placing::put(&guarded.caused[..guarded.count], caused);
+        acting::put(&guarded.marking, marking);
     }
-    number
+    verdict::tell(&answer, reason, place)
 }
 
 // So many guarded ticks in one call. What they caused goes into the first places of the list: 256 times the number of the tick before which an
@@ -438,20 +327,14 @@ pub extern "C" fn duty_sleep(
     ensures place { place.new ≡ done (images_number table.now marking.old) (verdict_told result
         (on sleep_answer table.now marking.old ticks (length list.old)).place place.old) place.old }
 {
-    let read = images::read(table, &marking[..]);
-    let t = read.table;
-    let m = read.marking;
-    if read.number == 0 {
-        let answer = sleep::sleep(t, m, ticks, list);
-        verdict::tell(answer.number, answer.reason, answer.place, reason, place);
-        if answer.number == 0 {
-            *count = answer.count;
-            let after = answer.marking;
-            image::write_marking(after, marking);
-        }
-        return answer.number;
+    let answer = images::on_lent(table, &marking[..], list, |i, list| {
+        sleep::sleep(&i.table, &i.marking, ticks, list)
+    });
+    if let Ok(slept) = &answer {
+        *count = slept.count;
+        acting::put(&slept.marking, marking);
     }
-    read.number
+    verdict::tell(&answer, reason, place)
 }
 
 // How many guarded ticks can pass before one finds an event due.
@@ -462,15 +345,8 @@ pub extern "C" fn duty_quiet(table: &[u8], marking: &[u8], ticks: &mut usize) ->
     ensures ticks { ticks.new ≡ done result
         (on quiet_answer table.now marking.now).ticks ticks.old }
 {
-    let read = images::read(table, marking);
-    let t = read.table;
-    let m = read.marking;
-    let answer = sleep::quiet(t, m);
-    let number = images::first_of(read.number, answer.number);
-    if number == 0 {
-        *ticks = answer.ticks;
-    }
-    number
+    let answer = images::on(table, marking, |i| sleep::quiet(&i.table, &i.marking));
+    telling::tell(answer, ticks)
 }
 
 // Of two offered lists the shortest start that discharges: which list, 0 preferred or 1 fallback, and how long.
@@ -491,18 +367,12 @@ pub extern "C" fn duty_remedies(
     ensures length { length.new ≡ done result
         (on remedy table.now marking.now preferred.now fallback.now).length length.old }
 {
-    let read = images::read(table, marking);
-    let t = read.table;
-    let m = read.marking;
-    if read.number == 0 {
-        let answer = offering::offered(t, m, preferred, fallback);
-        if answer.number == 0 {
-            *list = answer.fallback as u8;
-            *length = answer.length;
-        }
-        return answer.number;
-    }
-    read.number
+    let answer = images::on(
+        table,
+        marking,
+        |i| offering::remedies(i, preferred, fallback),
+    );
+    telling::tell_both(answer, list, length)
 }
 
 // A trace of steps of 2 bytes, kind and event; one answer byte per step.
@@ -516,11 +386,8 @@ pub extern "C" fn duty_run(table: &[u8], marking: &mut [u8], steps: &[u8], answe
     ensures answers { answers.new ≡ done result
         (on run_bytes_answers table.now marking.old steps.now answers.old) answers.old }
 {
-    let read = images::read(table, &marking[..]);
-    let t = read.table;
-    let m = read.marking;
-    if read.number == 0 {
-        return acting::put_back(engine::run_bytes(t, m, steps, answers), marking);
-    }
-    read.number
+    let answer = images::on_lent(table, &marking[..], answers, |i, answers| {
+        engine::run_bytes(&i.table, &i.marking, steps, answers)
+    });
+    acting::put_back(&answer, marking)
 }

@@ -1,61 +1,22 @@
 // The offered lists: which has a start that discharges, and how long it is. C has the lists, so it is not handed the stretch itself.
-ghost use Rattle.std.specs.Prelude.{◌≡◌, ◌≤◌, length};
-ghost use Rattle.rules.specs.Judge.{judged};
-ghost use Rattle.rules.specs.Remedy.{longest_list, shortest, remedy};
+ghost use Rattle.std.specs.Prelude.{◌≡◌, IfOk};
+ghost use Rattle.rules.specs.Fields.{bit};
+ghost use Rattle.rules.specs.Remedy.{remedy};
+ghost use Rattle.rules.specs.Results.{number_of};
 
-use rules::{LONGEST_LIST, Marking, RemedyAnswer, Table};
+use super::images::Images;
+use rules::Refusal;
 
-// Of one list: with nothing to fall back on, the engine finds its shortest start or refuses. One more than the list where there is none.
-fn shortest(t: Table, m: Marking, list: &[u8]) -> usize
-    requires m_value { judged t m ≡ 0 }
-    requires list_len_bound { length list.now ≤ longest_list }
-    ensures { result ≡ shortest t m list.now }
+// 0 for the preferred list, 1 for the fallback.
+pub fn remedies<'a>(
+    i: &Images,
+    preferred: &'a [u8],
+    fallback: &'a [u8],
+) -> Result<(u8, usize), Refusal>
+    ensures number { number_of result ≡ (remedy i.now.table i.now.marking preferred.now fallback.now).number }
+    ensures start { let told = remedy i.now.table i.now.marking preferred.now fallback.now in
+        IfOk result (λ r. r ≡ (bit told.fallback, told.length)) }
 {
-    let mut number = 0u8;
-    let start = engine::remedies(t, m, list, &list[..0], &mut number);
-    if number == 0 {
-        return start.len();
-    }
-    list.len() + 1
-}
-
-pub fn offered(t: Table, m: Marking, preferred: &[u8], fallback: &[u8]) -> RemedyAnswer
-    requires { judged t m ≡ 0 }
-    ensures { result ≡ remedy t m preferred.now fallback.now }
-{
-    if LONGEST_LIST < preferred.len() {
-        return RemedyAnswer {
-            number: 14,
-            fallback: false,
-            length: 0,
-        };
-    }
-    if LONGEST_LIST < fallback.len() {
-        return RemedyAnswer {
-            number: 14,
-            fallback: false,
-            length: 0,
-        };
-    }
-    let first = shortest(t, m, preferred);
-    if first <= preferred.len() {
-        return RemedyAnswer {
-            number: 0,
-            fallback: false,
-            length: first,
-        };
-    }
-    let second = shortest(t, m, fallback);
-    if second <= fallback.len() {
-        return RemedyAnswer {
-            number: 0,
-            fallback: true,
-            length: second,
-        };
-    }
-    RemedyAnswer {
-        number: 13,
-        fallback: false,
-        length: 0,
-    }
+    let remedy = engine::remedies(&i.table, &i.marking, preferred, fallback)?;
+    Ok((remedy.fallback as u8, remedy.start.len()))
 }

@@ -1,106 +1,78 @@
-// Answers that are enums, in numbers.
+// One way to answer C: what a call that is done says goes into the lent places, and a refusal leaves them; the number is handed back.
 ghost use Rattle.std.specs.Prelude.{◌≡◌};
-ghost use Rattle.rules.specs.declared.MarginAnswer.TheVariants.{Ignored};
-ghost use Rattle.rules.specs.Numbers.{margin_in_numbers, hold_up_in_numbers, check_in_numbers};
+ghost use Rattle.rules.specs.Numbers.{margin_in_numbers, hold_up_in_numbers};
+ghost use Rattle.rules.specs.Results.{number_of, value_or, as_margin_of, as_hold_up_of};
 
-use rules::{CheckAnswer, HoldUpAnswer, MarginAnswer, Rest, ToldCheck, ToldHoldUp, ToldMargin};
+use rules::{Closure, HoldUp, Margin, Refusal};
 
-// Of a margin that is ignored.
-fn ignored(rest: Rest) -> ToldMargin
-    ensures { result ≡ margin_in_numbers (Ignored rest) }
+pub fn number<A>(answer: &Result<A, Refusal>) -> u8
+    ensures { result ≡ number_of answer.now }
 {
-    match rest {
-        Rest::Never => ToldMargin {
-            number: 0,
-            kind: 1,
-            ticks: 0,
-        },
-        Rest::By(ticks) => ToldMargin {
-            number: 0,
-            kind: 4,
-            ticks,
-        },
+    match answer {
+        Ok(_) => 0,
+        Err(refusal) => u8::from(*refusal),
     }
 }
 
-pub fn margin(answer: MarginAnswer) -> ToldMargin
-    ensures { result ≡ margin_in_numbers answer }
+pub fn tell<A: Copy>(answer: Result<A, Refusal>, place: &mut A) -> u8
+    ensures number { result ≡ number_of answer }
+    ensures place { place.new ≡ value_or place.old answer }
 {
     match answer {
-        MarginAnswer::Refused(number) => ToldMargin {
-            number,
-            kind: 0,
-            ticks: 0,
-        },
-        MarginAnswer::NotACondition => ToldMargin {
-            number: 0,
-            kind: 0,
-            ticks: 0,
-        },
-        MarginAnswer::Ignored(rest) => ignored(rest),
-        MarginAnswer::Never => ToldMargin {
-            number: 0,
-            kind: 2,
-            ticks: 0,
-        },
-        MarginAnswer::By(ticks) => ToldMargin {
-            number: 0,
-            kind: 3,
-            ticks,
-        },
+        Ok(value) => {
+            *place = value;
+            0
+        }
+        Err(refusal) => u8::from(refusal),
     }
 }
 
-pub fn hold_up(answer: HoldUpAnswer) -> ToldHoldUp
-    ensures { result ≡ hold_up_in_numbers answer }
+pub fn tell_both<A: Copy, B: Copy>(
+    answer: Result<(A, B), Refusal>,
+    first: &mut A,
+    second: &mut B,
+) -> u8
+    ensures number { result ≡ number_of answer }
+    ensures first { first.new ≡ (value_or (first.old, second.old) answer).0 }
+    ensures second { second.new ≡ (value_or (first.old, second.old) answer).1 }
 {
     match answer {
-        HoldUpAnswer::Refused(number) => ToldHoldUp {
-            number,
-            kind: 0,
-            relation: 0,
-        },
-        HoldUpAnswer::Enabled => ToldHoldUp {
-            number: 0,
-            kind: 0,
-            relation: 0,
-        },
-        HoldUpAnswer::EnabledUnless(relation) => ToldHoldUp {
-            number: 0,
-            kind: 3,
-            relation,
-        },
-        HoldUpAnswer::Excluded => ToldHoldUp {
-            number: 0,
-            kind: 1,
-            relation: 0,
-        },
-        HoldUpAnswer::Blocked(relation) => ToldHoldUp {
-            number: 0,
-            kind: 2,
-            relation,
-        },
+        Ok((one, other)) => {
+            *first = one;
+            *second = other;
+            0
+        }
+        Err(refusal) => u8::from(refusal),
     }
 }
 
-pub fn check(answer: CheckAnswer) -> ToldCheck
-    ensures { result ≡ check_in_numbers answer }
+// The kind of a margin, and the ticks.
+pub fn margin(margin: Margin) -> (u8, i32)
+    ensures { let told = margin_in_numbers (as_margin_of margin) in result ≡ (told.kind, told.ticks) }
 {
-    match answer {
-        CheckAnswer::Refused(number) => ToldCheck {
-            number,
-            reason: 0,
-            place: 0,
-        },
-        CheckAnswer::Accepts => ToldCheck {
-            number: 0,
-            reason: 0,
-            place: 0,
-        },
-        CheckAnswer::Rejects(reason, place) => ToldCheck {
-            number: 12,
-            reason,
-            place,
-        },
+    match margin {
+        Margin::NotACondition => (0, 0),
+        Margin::Ignored(None) => (1, 0),
+        Margin::Counts(None) => (2, 0),
+        Margin::Counts(Some(ticks)) => (3, ticks),
+        Margin::Ignored(Some(ticks)) => (4, ticks),
     }
+}
+
+// The kind of a hold-up, and the relation.
+pub fn hold_up(hold_up: HoldUp) -> (u8, usize)
+    ensures { let told = hold_up_in_numbers (as_hold_up_of hold_up) in result ≡ (told.kind, told.relation) }
+{
+    match hold_up {
+        HoldUp::Enabled => (0, 0),
+        HoldUp::Excluded => (1, 0),
+        HoldUp::Blocked(relation) => (2, relation),
+        HoldUp::EnabledUnless(relation) => (3, relation),
+    }
+}
+
+pub fn closure(closure: Closure) -> (u64, u32)
+    ensures { result ≡ (closure.set, closure.size) }
+{
+    (closure.set, closure.size)
 }

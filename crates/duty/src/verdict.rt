@@ -1,13 +1,25 @@
-// The check's reason and place, told to C: with 0 and with 12 alone.
+// The check's reason and place, told to C: where the check was made. Any other refusal leaves them.
 ghost use Rattle.std.specs.Prelude.{◌≡◌};
-ghost use Rattle.rules.specs.Images.{verdict_told};
+ghost use Rattle.duty.specs.Telling.{check_number_of, reason_left, place_left};
 
-pub fn tell(number: u8, why: u8, at: usize, reason: &mut u8, place: &mut usize)
-    ensures reason { reason.new ≡ verdict_told number why reason.old }
-    ensures place { place.new ≡ verdict_told number at place.old }
+use rules::{CheckError, Refusal};
+
+pub fn tell<A>(answer: &Result<A, CheckError>, reason: &mut u8, place: &mut usize) -> u8
+    ensures number { result ≡ check_number_of answer.now }
+    ensures reason { reason.new ≡ reason_left reason.old answer.now }
+    ensures place { place.new ≡ place_left place.old answer.now }
 {
-    if number == 0 || number == 12 {
-        *reason = why;
-        *place = at;
+    match answer {
+        Ok(_) => {
+            *reason = 0;
+            *place = 0;
+            0
+        }
+        Err(CheckError::Rejected(rejection)) => {
+            *reason = u8::from(rejection.reason);
+            *place = rejection.place;
+            u8::from(Refusal::Rejected)
+        }
+        Err(CheckError::Refused(refusal)) => u8::from(*refusal),
     }
 }

@@ -2,9 +2,11 @@
 -- contract itself, as the check reads it. Assumes nothing.
 use mathlib.Core.Path.{◌≡◌, sym, ◌∙◌}
 use mathlib.Core.List.{List}
+use Prim.Native.Nat.{ℕ}
 use contract.Lifetimes.{Lfts}
 use denote.Triple.Clauses.{AtExit}
 use borrow.Fn.Kinds.{ParamKind, ResultKind, Out, Dens, res_t, ended_of}
+use Rattle.rules.proofs.Laws.Results.{enabled_once, set_once, marking_once, margin_once, hold_up_once, closure_once, check_once, guarded_once}
 use Rattle.engine.proofs.size.Kinds as size-kinds
 use Rattle.engine.proofs.size.Reads as size-reads
 use Rattle.engine.proofs.lowest.Kinds as lowest-kinds
@@ -29,40 +31,40 @@ use Rattle.engine.proofs.guarded_tick.Kinds as guarded-tick-kinds
 use Rattle.engine.proofs.guarded_tick.Reads as guarded-tick-reads
 
 -- any two answers that meet the promise, of the same arguments, are one
-abbrev pub Determined : (ps : List (ParamKind 0)) (r : ResultKind 0) → Out 0 ps r → Type 0
-Determined ps r Promise =
-    (κs : Lfts 0) (arguments : Dens κs ps) (one other : (res_t r κs).Denot) (s s' : AtExit (ended_of 0 ps r) κs)
+abbrev pub Determined : (n : ℕ) (ps : List (ParamKind n)) (r : ResultKind n) → Out n ps r → Type 0
+Determined n ps r Promise =
+    (κs : Lfts n) (arguments : Dens κs ps) (one other : (res_t r κs).Denot) (s s' : AtExit (ended_of n ps r) κs)
     → Promise κs arguments one s → Promise κs arguments other s' → one ≡ other
 
-pub size_determined : Determined size-kinds.ps size-kinds.r size-reads.Post
+pub size_determined : Determined 0 size-kinds.ps size-kinds.r size-reads.Post
 size_determined κs a x y s s' p q = p ∙ sym q
 
-pub lowest_determined : Determined lowest-kinds.ps lowest-kinds.r lowest-reads.Post
+pub lowest_determined : Determined 0 lowest-kinds.ps lowest-kinds.r lowest-reads.Post
 lowest_determined κs a x y s s' p q = p ∙ sym q
 
-pub enabled_determined : Determined enabled-kinds.ps enabled-kinds.r enabled-reads.Post
-enabled_determined κs a x y s s' p q = p ∙ sym q
+pub enabled_determined : Determined 2 enabled-kinds.ps enabled-kinds.r enabled-reads.Learnt
+enabled_determined κs a x y s s' p q = enabled_once x y (p ∙ sym q)
 
-pub due_determined : Determined due-kinds.ps due-kinds.r due-reads.Post
-due_determined κs a x y s s' p q = p ∙ sym q
+pub due_determined : Determined 2 due-kinds.ps due-kinds.r due-reads.Learnt
+due_determined κs a x y s s' p q = set_once x y (p ∙ sym q)
 
-pub happen_determined : Determined happen-kinds.ps happen-kinds.r happen-reads.Post
-happen_determined κs a x y s s' p q = p ∙ sym q
+pub happen_determined : Determined 2 happen-kinds.ps happen-kinds.r happen-reads.Learnt
+happen_determined κs a x y s s' p q = marking_once a.1.0.now x y (p ∙ sym q)
 
-pub plain_tick_determined : Determined plain-tick-kinds.ps plain-tick-kinds.r plain-tick-reads.Post
-plain_tick_determined κs a x y s s' p q = p ∙ sym q
+pub plain_tick_determined : Determined 2 plain-tick-kinds.ps plain-tick-kinds.r plain-tick-reads.Learnt
+plain_tick_determined κs a x y s s' p q = marking_once a.1.0.now x y (p ∙ sym q)
 
-pub margin_determined : Determined margin-kinds.ps margin-kinds.r margin-reads.Post
-margin_determined κs a x y s s' p q = p.0 ∙ sym q.0
+pub margin_determined : Determined 2 margin-kinds.ps margin-kinds.r margin-reads.Learnt
+margin_determined κs a x y s s' p q = margin_once x y (p.0 ∙ sym q.0)
 
-pub hold_up_determined : Determined hold-up-kinds.ps hold-up-kinds.r hold-up-reads.Post
-hold_up_determined κs a x y s s' p q = p.0 ∙ sym q.0
+pub hold_up_determined : Determined 2 hold-up-kinds.ps hold-up-kinds.r hold-up-reads.Learnt
+hold_up_determined κs a x y s s' p q = hold_up_once x y (p.0 ∙ sym q.0)
 
-pub closure_determined : Determined closure-kinds.ps closure-kinds.r closure-reads.Post
-closure_determined κs a x y s s' p q = p ∙ sym q
+pub closure_determined : Determined 2 closure-kinds.ps closure-kinds.r closure-reads.Learnt
+closure_determined κs a x y s s' p q = closure_once x y (p ∙ sym q)
 
-pub check_determined : Determined check-kinds.ps check-kinds.r check-reads.Post
-check_determined κs a x y s s' p q = p.0 ∙ sym q.0
+pub check_determined : Determined 2 check-kinds.ps check-kinds.r check-reads.Learnt
+check_determined κs a x y s s' p q = check_once x y (p.0 ∙ sym q.0)
 
-pub guarded_tick_determined : Determined guarded-tick-kinds.ps guarded-tick-kinds.r guarded-tick-reads.Post
-guarded_tick_determined κs a x y s s' p q = p ∙ sym q
+pub guarded_tick_determined : Determined 2 guarded-tick-kinds.ps guarded-tick-kinds.r guarded-tick-reads.Learnt
+guarded_tick_determined κs a x y s s' p q = guarded_once a.1.0.now x y (p ∙ sym q)

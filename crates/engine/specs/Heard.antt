@@ -1,7 +1,10 @@
 -- What the station writes, part by part, for the functions within its call. What the call promises stands in `Station` of the crate `rules`.
-use Rattle.std.specs.Prelude.{List, [], ◌∷◌, ◌++◌, ℕ, ◌+◌, ◌*◌, ◌/◌, ◌%◌, eqb, length, take, drop}
+use Rattle.std.specs.Prelude.{◌≡◌, Result, Ok, Err, List, [], ◌∷◌, ◌++◌, ℕ, ◌+◌, ◌*◌, ◌/◌, ◌%◌, eqb, length, take, drop}
 use Rattle.rules.specs.declared.Table.{Table}
 use Rattle.rules.specs.declared.Marking.{Marking}
+use Rattle.rules.specs.declared.refusal.Refusal.{Refusal}
+use Rattle.rules.specs.Results.{refusal_number}
+use Rattle.duties.specs.AtStart.{AtStart}
 use Rattle.rules.specs.Numbers.{◌if◌, ◌else◌, done}
 use Rattle.rules.specs.Judge.{judged}
 use Rattle.rules.specs.Image.{record_bytes, read_marking, marking_image}
@@ -20,3 +23,8 @@ after_table t rest beyond =
     let size = record_bytes * t.events in
     let read = read_marking t.events (take size rest) in
     done read.number (after_marking t read.marking (drop size rest) beyond) (read.number ∷ [])
+
+-- What is to be written stands at the start of what was before, and is counted; or it is the one byte of a refusal, and nothing is written yet.
+abbrev pub Heard : List ℕ → List ℕ → Result ℕ Refusal → List ℕ → Type 0
+Heard bytes before (Ok count) after = AtStart bytes before count after
+Heard bytes before (Err refusal) after = (bytes ≡ refusal_number refusal ∷ []) × (after ≡ before)

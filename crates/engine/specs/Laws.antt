@@ -1,6 +1,9 @@
 -- What the inner functions' promises amount to.
+pub mod Results
+pub mod Refused
+pub mod Done
 pub mod Judging
 pub mod Trial
-pub mod Running
 pub mod Playing
 pub mod Heard
+pub mod Hearing

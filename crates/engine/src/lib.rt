@@ -1,15 +1,26 @@
-// The engine's public calls. Each judges the decoded table, then the marking, then its own numbers, and promises its definition in the
-// crate `rules`, whole.
+// The engine's public calls, of a lent table and marking. Each judges the table, then the marking, then its own numbers, and promises its
+// definition in the crate `rules`, whole.
 #![tactic(auto)]
 
-mod heard;
-mod refusing;
-mod remedy;
-mod trace;
+mod hearing;
+mod runner;
+mod trial;
 
-ghost use Rattle.std.specs.Prelude.{◌≡◌, cond, length};
-ghost use Rattle.rules.specs.Numbers.{margin_in_numbers, hold_up_in_numbers, check_in_numbers};
+ghost use Rattle.std.specs.Prelude.{◌≡◌, cond, length, IfOk};
 ghost use Rattle.rules.specs.EventSet.{size_of, lowest_of};
+ghost use Rattle.rules.specs.Numbers.{margin_in_numbers, hold_up_in_numbers, check_in_numbers};
+ghost use Rattle.rules.specs.Results.{
+  number_of,
+  value_or,
+  as_enabled,
+  as_set,
+  as_marking,
+  as_margin,
+  as_hold_up,
+  as_closure,
+  as_check,
+  as_guarded,
+};
 ghost use Rattle.rules.specs.Enabled.{enabled_answer};
 ghost use Rattle.rules.specs.Time.{due_answer, plain_tick};
 ghost use Rattle.rules.specs.Happen.{happen};
@@ -22,13 +33,28 @@ ghost use Rattle.rules.specs.Remedy.{remedy, stretch};
 ghost use Rattle.rules.specs.Trace.{run, run_answers, run_bytes, run_bytes_answers};
 ghost use Rattle.rules.specs.Station.{heard_number, heard_bytes, heard_output};
 
-use acts::{derived, enabling, event_set, happen, laid, time, waiting};
-use duties::{following, guard, reasons};
-use image::judging;
+use crate::runner::{bytes_granted, granted, played};
+use crate::trial::discharging;
+use acts::derived::Head;
+use acts::event_set;
+use acts::holding::{holding, is_enabled};
+use acts::margin::margin_of;
+use acts::marking_words::MarkingWords;
+use acts::table_words::{OwnRow, Rows, TableWords};
+use duties::following::Following;
+use duties::guard::guarded;
+use duties::reasons::{found, verdict};
+use image::judging::{exists, judge};
 use rules::{
-    CheckAnswer, ClosureAnswer, EnabledAnswer, GuardedAnswer, HoldUpAnswer, LONGEST_LIST,
-    MarginAnswer, Marking, MarkingAnswer, SetAnswer, Step, Table,
+    CheckError, Closure, Guarded, HoldUp, LONGEST_LIST, Margin, Marking, Refusal, Step, Table,
 };
+
+// What a remedy starts with: the first events of one of the operator's own lists, of the fallback or of the preferred one.
+#[derive(Clone, Copy)]
+pub struct Remedy<'a> {
+    pub fallback: bool,
+    pub start: &'a [u8],
+}
 
 // How many events a set holds.
 pub fn size(set: u64) -> u32
@@ -45,340 +71,188 @@ pub fn lowest(set: u64) -> u32
 }
 
 // Whether an event is enabled.
-pub fn enabled(t: Table, m: Marking, event: usize) -> EnabledAnswer
-    ensures { result ≡ enabled_answer t m event }
+pub fn enabled(t: &Table, m: &Marking, event: usize) -> Result<bool, Refusal>
+    ensures { as_enabled result ≡ enabled_answer t.now m.now event }
 {
-    let judged = judging::then_marking(image::judge_table(t), t.events, m);
-    let number = judging::then_event(judged, t.events, event);
-    if number == 0 {
-        let enabled = enabling::is_enabled(t, m, event);
-        return EnabledAnswer { number: 0, enabled };
-    }
-    EnabledAnswer {
-        number,
-        enabled: false,
-    }
+    judge(t, m)?;
+    exists(event, t.events)?;
+    Ok(is_enabled(t, m, event))
 }
 
 // The due events.
-pub fn due(t: Table, m: Marking) -> SetAnswer
-    ensures { result ≡ due_answer t m }
+pub fn due(t: &Table, m: &Marking) -> Result<u64, Refusal>
+    ensures { as_set result ≡ due_answer t.now m.now }
 {
-    let number = judging::then_marking(image::judge_table(t), t.events, m);
-    if number == 0 {
-        let mut sets = [0; 4];
-        let mut columns = [0; 192];
-        laid::lay(m, &mut sets, &mut columns);
-        let set = time::due(0, &sets, &columns, t.events);
-        return SetAnswer { number: 0, set };
-    }
-    SetAnswer { number, set: 0 }
+    judge(t, m)?;
+    Ok(MarkingWords::of(m).due(t.events))
 }
 
 // An event happens: whatever its class, it is executed, if it exists and is enabled. Only its own row and links are made.
-pub fn happen(t: Table, m: Marking, event: usize) -> MarkingAnswer
-    ensures { result ≡ happen t m event }
+pub fn happen(t: &Table, m: &Marking, event: usize) -> Result<Marking, Refusal>
+    ensures { as_marking m.now result ≡ happen t.now m.now event }
 {
-    let judged = judging::then_marking(image::judge_table(t), t.events, m);
-    if judged != 0 {
-        return MarkingAnswer {
-            number: judged,
-            marking: m,
-        };
-    }
-    let mut row = [0; 10];
-    let mut links = [0; 256];
-    let mut sets = [0; 4];
-    let mut columns = [0; 192];
-    derived::own(t, event, &mut row, &mut links);
-    laid::lay(m, &mut sets, &mut columns);
-    let head = derived::head_of(t.controllable, t.causable, t.events, t.firm);
-    let number = happen::happen(&row, 0, &links, head, 0, &mut sets, &mut columns, event);
-    if number == 0 {
-        let executed = laid::give(m, 0, &sets, &columns);
-        return MarkingAnswer {
-            number: 0,
-            marking: executed,
-        };
-    }
-    MarkingAnswer { number, marking: m }
+    judge(t, m)?;
+    exists(event, t.events)?;
+    let own = OwnRow::of(t, event);
+    let mut marking = MarkingWords::of(m);
+    marking.happen(own.row(), event, Head::of(t).firm)?;
+    Ok(marking.marking(m))
 }
 
 // One tick passes, unless an event is due.
-pub fn plain_tick(t: Table, m: Marking) -> MarkingAnswer
-    ensures { result ≡ plain_tick t m }
+pub fn plain_tick(t: &Table, m: &Marking) -> Result<Marking, Refusal>
+    ensures { as_marking m.now result ≡ plain_tick t.now m.now }
 {
-    let number = judging::then_marking(image::judge_table(t), t.events, m);
-    if number == 0 {
-        let mut sets = [0; 4];
-        let mut columns = [0; 192];
-        laid::lay(m, &mut sets, &mut columns);
-        if time::due(0, &sets, &columns, t.events) == 0 {
-            let after = laid::give(m, time::tick(0), &sets, &columns);
-            return MarkingAnswer {
-                number: 0,
-                marking: after,
-            };
-        }
-        return MarkingAnswer {
-            number: 11,
-            marking: m,
-        };
+    judge(t, m)?;
+    let mut marking = MarkingWords::of(m);
+    if marking.due(t.events) != 0 {
+        return Err(Refusal::StillDue);
     }
-    MarkingAnswer { number, marking: m }
+    marking.pass_tick();
+    Ok(marking.marking(m))
 }
 
 // The margin of a condition.
-pub fn margin(t: Table, m: Marking, relation: usize) -> MarginAnswer
-    ensures answer { result ≡ margin t m relation }
-    ensures told { margin_in_numbers result ≡ told_margin t m relation }
+pub fn margin(t: &Table, m: &Marking, relation: usize) -> Result<Margin, Refusal>
+    ensures answer { as_margin result ≡ margin t.now m.now relation }
+    ensures told { margin_in_numbers (as_margin result) ≡ told_margin t.now m.now relation }
 {
-    let number = judging::then_marking(image::judge_table(t), t.events, m);
-    if number == 0 {
-        if relation < t.count {
-            let k = t.relations[relation];
-            let x = k.right as usize;
-            let r = m.records[x];
-            return waiting::margin_of(k, r);
-        }
-        return MarginAnswer::Refused(8);
-    }
-    MarginAnswer::Refused(number)
+    judge(t, m)?;
+    exists(relation, t.count)?;
+    let k = t.relations[relation];
+    Ok(margin_of(k, m.records[k.right as usize]))
 }
 
 // What holds an event up.
-pub fn hold_up(t: Table, m: Marking, event: usize) -> HoldUpAnswer
-    ensures answer { result ≡ hold_up t m event }
-    ensures told { hold_up_in_numbers result ≡ told_hold_up t m event }
+pub fn hold_up(t: &Table, m: &Marking, event: usize) -> Result<HoldUp, Refusal>
+    ensures answer { as_hold_up result ≡ hold_up t.now m.now event }
+    ensures told { hold_up_in_numbers (as_hold_up result) ≡ told_hold_up t.now m.now event }
 {
-    let judged = judging::then_marking(image::judge_table(t), t.events, m);
-    let number = judging::then_event(judged, t.events, event);
-    if number == 0 {
-        return enabling::holding(t, m, event);
-    }
-    HoldUpAnswer::Refused(number)
+    judge(t, m)?;
+    exists(event, t.events)?;
+    Ok(holding(t, m, event))
 }
 
-// The closure and its size, also where the check rejects. The relations are noted here, one by one: who is handed the table copies it.
-pub fn closure(t: Table, m: Marking) -> ClosureAnswer
-    ensures { result ≡ closure_answer t m }
+// The closure and its size, also where the check rejects.
+pub fn closure(t: &Table, m: &Marking) -> Result<Closure, Refusal>
+    ensures { as_closure result ≡ closure_answer t.now m.now }
 {
-    let number = judging::then_marking(image::judge_table(t), t.events, m);
-    if number == 0 {
-        let mut words = [0; 64];
-        let mut answers = 0;
-        let n = t.count;
-        let mut i = 0;
-        while i < n {
-            let k = t.relations[i];
-            following::note(&mut words, k);
-            answers = following::answering(answers, k);
-            i += 1;
-        }
-        let mut sets = [0; 4];
-        let mut columns = [0; 192];
-        laid::lay(m, &mut sets, &mut columns);
-        let set = following::closure(&words, answers, &sets, t.events);
-        let size = event_set::size(set);
-        return ClosureAnswer {
-            number: 0,
-            set,
-            size,
-        };
-    }
-    ClosureAnswer {
-        number,
-        set: 0,
-        size: 0,
-    }
+    judge(t, m)?;
+    let set = Following::of(t).closure(&MarkingWords::of(m), t.events);
+    Ok(Closure {
+        set,
+        size: event_set::size(set),
+    })
 }
 
 // The static check.
-pub fn check(t: Table, m: Marking) -> CheckAnswer
-    ensures answer { result ≡ check t m }
-    ensures told { check_in_numbers result ≡ told_check t m }
+pub fn check(t: &Table, m: &Marking) -> Result<(), CheckError>
+    ensures answer { as_check result ≡ check t.now m.now }
+    ensures told { check_in_numbers (as_check result) ≡ told_check t.now m.now }
 {
-    let number = judging::then_marking(image::judge_table(t), t.events, m);
-    if number == 0 {
-        let mut rows = [0; 640];
-        let mut sets = [0; 4];
-        let mut columns = [0; 192];
-        derived::rows_of(t, &mut rows);
-        laid::lay(m, &mut sets, &mut columns);
-        let head = derived::head_of(t.controllable, t.causable, t.events, t.firm);
-        let found = reasons::found(&rows, head, &sets);
-        return reasons::verdict(t, found);
-    }
-    CheckAnswer::Refused(number)
+    judge(t, m)?;
+    let found = found(&Rows::of(t), &MarkingWords::of(m));
+    verdict(t, found)?;
+    Ok(())
 }
 
 // The needed events are executed in order and one tick passes, unless the check rejects.
-pub fn guarded_tick(t: Table, m: Marking) -> GuardedAnswer
-    ensures { result ≡ guarded_tick t m }
+pub fn guarded_tick(t: &Table, m: &Marking) -> Result<Guarded, CheckError>
+    ensures { as_guarded m.now result ≡ guarded_tick t.now m.now }
 {
-    let number = judging::then_marking(image::judge_table(t), t.events, m);
-    if number != 0 {
-        return refusing::nothing(number, 0, 0, m);
-    }
-    let mut rows = [0; 640];
-    let mut links = [0; 256];
-    let mut sets = [0; 4];
-    let mut columns = [0; 192];
-    derived::derived(t, &mut rows, &mut links);
-    laid::lay(m, &mut sets, &mut columns);
-    let head = derived::head_of(t.controllable, t.causable, t.events, t.firm);
-    let found = reasons::found(&rows, head, &sets);
-    let verdict = reasons::verdict(t, found);
-    match verdict {
-        CheckAnswer::Refused(number) => refusing::nothing(number, 0, 0, m),
-        CheckAnswer::Rejects(reason, place) => refusing::nothing(12, reason, place, m),
-        CheckAnswer::Accepts => {
-            let mut caused = [0; 64];
-            let count = guard::guarded(
-                &rows,
-                &links,
-                0,
-                &mut sets,
-                &mut columns,
-                &mut caused,
-                t.events,
-                head.firm,
-            );
-            let after = laid::give(m, time::tick(0), &sets, &columns);
-            GuardedAnswer {
-                number: 0,
-                reason: 0,
-                place: 0,
-                caused,
-                count,
-                marking: after,
-            }
-        }
-    }
+    judge(t, m)?;
+    let table = TableWords::of(t);
+    let mut marking = MarkingWords::of(m);
+    verdict(t, found(&table.rows, &marking))?;
+    let mut caused = [0; Table::MOST_EVENTS];
+    let count = guarded(&table, &mut marking, &mut caused);
+    marking.pass_tick();
+    Ok(Guarded {
+        caused,
+        count,
+        marking: marking.marking(m),
+    })
 }
 
-// The shortest start that discharges, of the preferred list if it has one, else of the fallback: that stretch of the operator's own list,
-// or an empty stretch of the preferred list with the number of the refusal. The marking is untouched: what is tried is tried on a copy.
+// The shortest start that discharges, of the preferred list if it has one, else of the fallback. The marking is untouched: what is tried is tried
+// on a copy.
 pub fn remedies<'a>(
-    t: Table,
-    m: Marking,
+    t: &Table,
+    m: &Marking,
     preferred: &'a [u8],
     fallback: &'a [u8],
-    number: &mut u8,
-) -> &'a [u8]
-    ensures stretch { result.now ≡ stretch (remedy t m preferred.now fallback.now) preferred.now fallback.now }
-    ensures own { result.ref_ptr ≡ cond (remedy t m preferred.now fallback.now).fallback fallback.entry.ref_ptr
-        preferred.entry.ref_ptr }
-    ensures number { number.new ≡ (remedy t m preferred.now fallback.now).number }
+) -> Result<Remedy<'a>, Refusal>
+    ensures number { number_of result ≡ (remedy t.now m.now preferred.now fallback.now).number }
+    ensures fallback { IfOk result (λ found. found.fallback ≡ (remedy t.now m.now preferred.now fallback.now).fallback) }
+    ensures stretch { IfOk result (λ found. found.start.now
+        ≡ stretch (remedy t.now m.now preferred.now fallback.now) preferred.now fallback.now) }
+    ensures own { IfOk result (λ found. found.start.ref_ptr
+        ≡ cond (remedy t.now m.now preferred.now fallback.now).fallback fallback.entry.ref_ptr preferred.entry.ref_ptr) }
 {
-    let refusal = judging::then_marking(image::judge_table(t), t.events, m);
-    if refusal != 0 {
-        *number = refusal;
-        return &preferred[..0];
+    judge(t, m)?;
+    if LONGEST_LIST < preferred.len() || LONGEST_LIST < fallback.len() {
+        return Err(Refusal::Room);
     }
-    if LONGEST_LIST < preferred.len() {
-        *number = 14;
-        return &preferred[..0];
+    let table = TableWords::of(t);
+    let mut marking = MarkingWords::of(m);
+    let mut trial = marking;
+    if let Some(start) = discharging(&table, &mut trial, preferred) {
+        return Ok(Remedy {
+            fallback: false,
+            start,
+        });
     }
-    if LONGEST_LIST < fallback.len() {
-        *number = 14;
-        return &preferred[..0];
+    match discharging(&table, &mut marking, fallback) {
+        Some(start) => Ok(Remedy {
+            fallback: true,
+            start,
+        }),
+        None => Err(Refusal::NoRemedy),
     }
-    let mut rows = [0; 640];
-    let mut links = [0; 256];
-    let mut sets = [0; 4];
-    let mut columns = [0; 192];
-    derived::derived(t, &mut rows, &mut links);
-    laid::lay(m, &mut sets, &mut columns);
-    let head = derived::head_of(t.controllable, t.causable, t.events, t.firm);
-    let mut first_sets = sets;
-    let mut first_columns = columns;
-    let first = remedy::tried(
-        &rows,
-        &links,
-        head,
-        &mut first_sets,
-        &mut first_columns,
-        preferred,
-    );
-    if time::due(0, &first_sets, &first_columns, t.events) == 0 {
-        *number = 0;
-        return &preferred[..first];
-    }
-    let second = remedy::tried(&rows, &links, head, &mut sets, &mut columns, fallback);
-    if time::due(0, &sets, &columns, t.events) == 0 {
-        *number = 0;
-        return &fallback[..second];
-    }
-    *number = 13;
-    &preferred[..0]
 }
 
 // A trace of steps of 2 bytes, kind and event; one answer byte per step. Nothing is written before the whole trace is known to be granted.
-pub fn run_bytes(t: Table, m: Marking, steps: &[u8], answers: &mut [u8]) -> MarkingAnswer
-    ensures answer { result ≡ run_bytes t m steps.now (length answers.old) }
-    ensures answers { answers.new ≡ run_bytes_answers t m steps.now answers.old }
+pub fn run_bytes(
+    t: &Table,
+    m: &Marking,
+    steps: &[u8],
+    answers: &mut [u8],
+) -> Result<Marking, Refusal>
+    ensures answer { as_marking m.now result ≡ run_bytes t.now m.now steps.now (length answers.old) }
+    ensures answers { answers.new ≡ run_bytes_answers t.now m.now steps.now answers.old }
 {
-    let whole = trace::bytes_number(t, m, steps.len(), answers.len());
-    if whole == 0 {
-        let after = trace::played(t, m, steps, answers);
-        return MarkingAnswer {
-            number: 0,
-            marking: after,
-        };
-    }
-    MarkingAnswer {
-        number: whole,
-        marking: m,
-    }
+    bytes_granted(t, m, steps.len(), answers.len())?;
+    let step_at = |i: usize| Step {
+        kind: steps[2 * i],
+        event: steps[2 * i + 1],
+    };
+    Ok(played(t, m, step_at, &mut answers[..steps.len() / 2]))
 }
 
 // The same of a lent list of steps.
-pub fn run(t: Table, m: Marking, steps: &[Step], answers: &mut [u8]) -> MarkingAnswer
-    ensures { (result ≡ run t m steps.now (length answers.old))
-        × (answers.new ≡ run_answers t m steps.now answers.old) }
+pub fn run(t: &Table, m: &Marking, steps: &[Step], answers: &mut [u8]) -> Result<Marking, Refusal>
+    ensures answer { as_marking m.now result ≡ run t.now m.now steps.now (length answers.old) }
+    ensures answers { answers.new ≡ run_answers t.now m.now steps.now answers.old }
 {
-    let mut state = trace::begun(t, m, steps.len(), answers.len());
-    let words = trace::words_for(t, state.number);
-    let n = state.steps;
-    let mut i = 0;
-    while i < n {
-        let x = steps[i];
-        let next = trace::stepped(t, words, state, x.kind, x.event);
-        answers[i] = next.answer;
-        state = next;
-        i += 1;
-    }
-    trace::ended(state)
+    judge(t, m)?;
+    granted(steps.len(), answers.len())?;
+    Ok(played(t, m, |i: usize| steps[i], &mut answers[..steps.len()]))
 }
 
 // What the station program keeps of its input: as much as the longest has that is granted.
-pub const LONGEST_INPUT: usize = heard::LONGEST_INPUT;
+pub const LONGEST_INPUT: usize = hearing::LONGEST_INPUT;
 
 // What it lends for the output.
-pub const LONGEST_OUTPUT: usize = heard::LONGEST_OUTPUT;
+pub const LONGEST_OUTPUT: usize = hearing::LONGEST_OUTPUT;
 
-// The first `count` bytes of the output are what the station writes; a refusal writes nothing. It is declared here and not with the other
-// answers, since the station names the engine alone.
-#[derive(Clone, Copy)]
-pub struct StationAnswer {
-    pub number: u8,
-    pub count: usize,
-}
-
-// What the station program writes for its whole input, of which the first bytes are kept and so many came after them. It is written to the
-// start of the output. 14 where the output is shorter than the longest, or where bytes come after fewer kept ones than the longest input has.
-pub fn station(input: &[u8], beyond: usize, output: &mut [u8]) -> StationAnswer
-    ensures answer { result ≡ record {
-      number = heard_number (length input.now) beyond (length output.old);
-      count = length (heard_bytes input.now beyond (length output.old));
-    } }
+// What the station program writes for its whole input, of which the first bytes are kept and so many came after them: how many bytes it is, at the
+// start of the output. 14, and nothing is written, where the output is shorter than the longest, or where bytes come after fewer kept ones than
+// the longest input has.
+pub fn station(input: &[u8], beyond: usize, output: &mut [u8]) -> Result<usize, Refusal>
+    ensures number { number_of result ≡ heard_number (length input.now) beyond (length output.old) }
+    ensures count { value_or 0 result ≡ length (heard_bytes input.now beyond (length output.old)) }
     ensures output { output.new ≡ heard_output input.now beyond output.old }
 {
-    let number = heard::number(input.len(), beyond, output.len());
-    if number == 0 {
-        let count = heard::whole(input, beyond, output);
-        return StationAnswer { number: 0, count };
-    }
-    StationAnswer { number, count: 0 }
+    hearing::granted(input.len(), beyond, output.len())?;
+    Ok(hearing::told(input, beyond, output))
 }

@@ -1,27 +1,29 @@
 -- Two results that meet a public call's promise are equal, the lent buffer too; and what the calls promise together: what is read is
 -- accepted, what is written is read back, what is read is written again, what is carried over is read as the old image says. A promise is
 -- what a caller learns of the answer and of the parameters at exit, as the call's own clauses say it. Assumes nothing.
-use mathlib.Core.Path.{◌≡◌, sym, ap, ap₂, ◌∙◌}
+use mathlib.Core.Path.{◌≡◌, refl, sym, ap, ap₂, ◌∙◌}
 use mathlib.Core.List.{List, ◌++◌}
 use Prim.Native.Nat.{ℕ, ◌*◌, ◌<◌, ◌≤◌}
 use contract.Lifetimes.{Lfts}
 use denote.Triple.Clauses.{AtExit}
 use borrow.Fn.Kinds.{ParamKind, ResultKind, Out, Dens, res_t, ended_of}
 use lib.ListN.{length, get_or, take, drop}
+use Rattle.rules.specs.declared.Table.{Table}
 use Rattle.rules.specs.declared.Marking.{Marking}
-use Rattle.rules.specs.declared.MarkingAnswer.{MarkingAnswer}
-use Rattle.rules.specs.declared.TableAnswer.{TableAnswer}
-use Rattle.rules.specs.Holds.{record_of}
+use Rattle.rules.specs.declared.refusal.Refusal.{Refusal}
+use Rattle.rules.specs.Answers.{MarkingAnswer, TableAnswer}
+use Rattle.std.specs.Prelude.{Result, Ok, Err}
+use Rattle.rules.specs.Results.{number_of, as_table, as_marking}
+use Rattle.rules.specs.Holds.{record_of, empty_marking}
 use Rattle.rules.specs.Judge.{table_number, marking_number_for}
-use Rattle.rules.specs.Image.{record_bytes, marking_from, read_marking, write_number, write_marking}
+use Rattle.rules.specs.Image.{record_bytes, marking_from, read_table, read_marking, write_number, write_marking, fresh as freshAnswer}
 use Rattle.rules.specs.Carrying.{carried}
+use Rattle.rules.proofs.Laws.Results.{refusal_once, result_once, table_once, marking_once}
 use Rattle.image.specs.Theorems.{read_table_accepted, read_marking_accepted, fresh_accepted, written_is_read, read_is_written, carried_is_read}
 use Rattle.rules.proofs.Marking.fresh.Kinds as fresh-kinds
 use Rattle.rules.proofs.Marking.fresh.Reads as fresh
 use Rattle.rules.proofs.Marking.empty.Kinds as empty-kinds
 use Rattle.rules.proofs.Marking.empty.Reads as empty
-use Rattle.rules.proofs.MarkingAnswer.refused.Kinds as refused-kinds
-use Rattle.rules.proofs.MarkingAnswer.refused.Reads as refused
 use Rattle.image.proofs.read_table.Kinds as read-table-kinds
 use Rattle.image.proofs.read_table.Reads as read_table
 use Rattle.image.proofs.write_table.Kinds as write-table-kinds
@@ -48,48 +50,53 @@ Agree n ps r promise Same =
 abbrev pub OneAnswer : (n : ℕ) (ps : List (ParamKind n)) (r : ResultKind n) → Out n ps r → Type 0
 OneAnswer n ps r promise = Agree n ps r promise (λ κs one other x y. one ≡ other)
 
-pub read_table_once : OneAnswer 1 read-table-kinds.ps read-table-kinds.r read_table.Learnt
-read_table_once κs a one other x y p q = p ∙ sym q
+-- a call that is done has no value, and is told by its number
+outcome_once : (one other : Result (Unit {0}) Refusal) → number_of one ≡ number_of other → one ≡ other
+outcome_once one other same = result_once tt one other same refl
 
-pub write_table_once : OneAnswer 1 write-table-kinds.ps write-table-kinds.r write-table.Learnt
-write_table_once κs a one other x y p q = p.0 ∙ sym q.0
+pub read_table_once : OneAnswer 1 read-table-kinds.ps read-table-kinds.r read_table.Learnt
+read_table_once κs a one other x y p q = table_once one other (p ∙ sym q)
+
+pub write_table_once : OneAnswer 2 write-table-kinds.ps write-table-kinds.r write-table.Learnt
+write_table_once κs a one other x y p q = outcome_once one other (p.0 ∙ sym q.0)
 
 pub read_marking_once : OneAnswer 1 read-marking-kinds.ps read-marking-kinds.r read-marking.Learnt
-read_marking_once κs a one other x y p q = p ∙ sym q
+read_marking_once κs a one other x y p q = marking_once empty_marking one other (p ∙ sym q)
 
-pub write_marking_once : OneAnswer 1 write-marking-kinds.ps write-marking-kinds.r write-marking.Learnt
-write_marking_once κs a one other x y p q = p.0 ∙ sym q.0
+pub write_marking_once : OneAnswer 2 write-marking-kinds.ps write-marking-kinds.r write-marking.Learnt
+write_marking_once κs a one other x y p q = outcome_once one other (p.0 ∙ sym q.0)
 
 pub carry_marking_once : OneAnswer 2 carry-marking-kinds.ps carry-marking-kinds.r carry-marking.Learnt
-carry_marking_once κs a one other x y p q = p.0 ∙ sym q.0
+carry_marking_once κs a one other x y p q = outcome_once one other (p.0 ∙ sym q.0)
 
-pub judge_table_once : OneAnswer 0 judge-table-kinds.ps judge-table-kinds.r judge-table.Learnt
-judge_table_once κs a one other x y p q = p ∙ sym q
+pub judge_table_once : OneAnswer 1 judge-table-kinds.ps judge-table-kinds.r judge-table.Learnt
+judge_table_once κs a one other x y p q = outcome_once one other (p ∙ sym q)
 
-pub judge_marking_once : OneAnswer 0 judge-marking-kinds.ps judge-marking-kinds.r judge-marking.Learnt
-judge_marking_once κs a one other x y p q = p ∙ sym q
+pub judge_marking_once : OneAnswer 1 judge-marking-kinds.ps judge-marking-kinds.r judge-marking.Learnt
+judge_marking_once κs a one other x y p q = outcome_once one other (p ∙ sym q)
 
 pub fresh_once : OneAnswer 0 fresh-kinds.ps fresh-kinds.r fresh.Learnt
-fresh_once κs a one other x y p q = p ∙ sym q
+fresh_once κs a one other x y p q = marking_once empty_marking one other (p ∙ sym q)
 
 pub empty_once : OneAnswer 0 empty-kinds.ps empty-kinds.r empty.Learnt
 empty_once κs a one other x y p q = p ∙ sym q
 
-pub refused_once : OneAnswer 0 refused-kinds.ps refused-kinds.r refused.Learnt
-refused_once κs a one other x y p q = p ∙ sym q
+-- a refusal where no marking was handed in is told by its answer
+pub refused_once : (one other : Refusal) → as_marking empty_marking (Err one) ≡ as_marking empty_marking (Err other) → one ≡ other
+refused_once one other same = refusal_once one other (ap (λ (a : MarkingAnswer). a.number) same)
 
 -- .. and so are two buffers that are handed back
-pub write_table_bytes_once : (κs : Lfts 1) (a : Dens κs write-table-kinds.ps) (one other : ℕ)
-    (x y : AtExit (ended_of 1 write-table-kinds.ps write-table-kinds.r) κs)
+pub write_table_bytes_once : (κs : Lfts 2) (a : Dens κs write-table-kinds.ps) (one other : Result (Unit {0}) Refusal)
+    (x y : AtExit (ended_of 2 write-table-kinds.ps write-table-kinds.r) κs)
     → write-table.Learnt κs a one x → write-table.Learnt κs a other y → x.1.0.now ≡ y.1.0.now
 write_table_bytes_once κs a one other x y p q = p.1 ∙ sym q.1
 
-pub write_marking_bytes_once : (κs : Lfts 1) (a : Dens κs write-marking-kinds.ps) (one other : ℕ)
-    (x y : AtExit (ended_of 1 write-marking-kinds.ps write-marking-kinds.r) κs)
+pub write_marking_bytes_once : (κs : Lfts 2) (a : Dens κs write-marking-kinds.ps) (one other : Result (Unit {0}) Refusal)
+    (x y : AtExit (ended_of 2 write-marking-kinds.ps write-marking-kinds.r) κs)
     → write-marking.Learnt κs a one x → write-marking.Learnt κs a other y → x.1.0.now ≡ y.1.0.now
 write_marking_bytes_once κs a one other x y p q = p.1 ∙ sym q.1
 
-pub carry_marking_bytes_once : (κs : Lfts 2) (a : Dens κs carry-marking-kinds.ps) (one other : ℕ)
+pub carry_marking_bytes_once : (κs : Lfts 2) (a : Dens κs carry-marking-kinds.ps) (one other : Result (Unit {0}) Refusal)
     (x y : AtExit (ended_of 2 carry-marking-kinds.ps carry-marking-kinds.r) κs)
     → carry-marking.Learnt κs a one x → carry-marking.Learnt κs a other y → x.1.1.0.now ≡ y.1.1.0.now
 carry_marking_bytes_once κs a one other x y p q = p.1 ∙ sym q.1
@@ -109,76 +116,92 @@ abbrev pub ReadsMarking : Type 0
 ReadsMarking = Run 1 read-marking-kinds.ps read-marking-kinds.r read-marking.Learnt
 
 abbrev pub WritesMarking : Type 0
-WritesMarking = Run 1 write-marking-kinds.ps write-marking-kinds.r write-marking.Learnt
+WritesMarking = Run 2 write-marking-kinds.ps write-marking-kinds.r write-marking.Learnt
 
 abbrev pub CarriesMarking : Type 0
 CarriesMarking = Run 2 carry-marking-kinds.ps carry-marking-kinds.r carry-marking.Learnt
 
 abbrev pub JudgesTable : Type 0
-JudgesTable = Run 0 judge-table-kinds.ps judge-table-kinds.r judge-table.Learnt
+JudgesTable = Run 1 judge-table-kinds.ps judge-table-kinds.r judge-table.Learnt
 
 abbrev pub JudgesMarking : Type 0
-JudgesMarking = Run 0 judge-marking-kinds.ps judge-marking-kinds.r judge-marking.Learnt
+JudgesMarking = Run 1 judge-marking-kinds.ps judge-marking-kinds.r judge-marking.Learnt
 
 abbrev pub MakesFresh : Type 0
 MakesFresh = Run 0 fresh-kinds.ps fresh-kinds.r fresh.Learnt
 
+-- what is read is told by its number and its value
+table_is : (t : Table) (image : List ℕ) (result : Result Table Refusal) → result ≡ Ok t → as_table result ≡ read_table image
+    → ((read_table image).number ≡ 0) × ((read_table image).table ≡ t)
+table_is t image result done kept =
+    let told = sym kept ∙ ap as_table done in
+    (ap (λ (a : TableAnswer). a.number) told, ap (λ (a : TableAnswer). a.table) told)
+
+marking_is : (m : Marking) (answer : MarkingAnswer) (result : Result Marking Refusal) → result ≡ Ok m → as_marking empty_marking result ≡ answer
+    → (answer.number ≡ 0) × (answer.marking ≡ m)
+marking_is m answer result done kept =
+    let told = sym kept ∙ ap (as_marking empty_marking) done in
+    (ap (λ (a : MarkingAnswer). a.number) told, ap (λ (a : MarkingAnswer). a.marking) told)
+
 -- A table that is read is accepted by the judge.
-pub table_accepted : (read : ReadsTable) (judge : JudgesTable) → read.answer.number ≡ 0 → judge.given.0 ≡ read.answer.table
-    → judge.answer ≡ 0
-table_accepted read judge done same =
-    judge.kept
-    ∙ ap table_number (same ∙ ap (λ (t : TableAnswer). t.table) read.kept)
-    ∙ read_table_accepted read.given.0.now (sym (ap (λ (t : TableAnswer). t.number) read.kept) ∙ done)
+pub table_accepted : (read : ReadsTable) (judge : JudgesTable) (t : Table) → read.answer ≡ Ok t → judge.given.0.now ≡ t
+    → judge.answer ≡ Ok tt
+table_accepted read judge t done same =
+    let image = read.given.0.now in
+    let told = table_is t image read.answer done read.kept in
+    outcome_once judge.answer (Ok tt) (judge.kept ∙ ap table_number (same ∙ sym told.1) ∙ read_table_accepted image told.0)
 
 -- A marking that is read is accepted by the judge.
-pub marking_accepted : (read : ReadsMarking) (judge : JudgesMarking) → read.answer.number ≡ 0
-    → judge.given.0 ≡ read.given.0 → judge.given.1.0 ≡ read.answer.marking → judge.answer ≡ 0
-marking_accepted read judge done events same =
-    judge.kept
-    ∙ ap₂ marking_number_for events (same ∙ ap (λ (m : MarkingAnswer). m.marking) read.kept)
-    ∙ read_marking_accepted read.given.0 read.given.1.0.now (sym (ap (λ (m : MarkingAnswer). m.number) read.kept) ∙ done)
+pub marking_accepted : (read : ReadsMarking) (judge : JudgesMarking) (m : Marking) → read.answer ≡ Ok m
+    → judge.given.0 ≡ read.given.0 → judge.given.1.0.now ≡ m → judge.answer ≡ Ok tt
+marking_accepted read judge m done events same =
+    let n = read.given.0 in
+    let image = read.given.1.0.now in
+    let told = marking_is m (read_marking n image) read.answer done read.kept in
+    outcome_once judge.answer (Ok tt) (judge.kept ∙ ap₂ marking_number_for events (same ∙ sym told.1) ∙ read_marking_accepted n image told.0)
 
 -- A fresh marking is accepted by the judge.
-pub fresh_marking_accepted : (make : MakesFresh) (judge : JudgesMarking) → make.answer.number ≡ 0
-    → judge.given.0 ≡ make.given.0 → judge.given.1.0 ≡ make.answer.marking → judge.answer ≡ 0
-fresh_marking_accepted make judge done events same =
-    judge.kept
-    ∙ ap₂ marking_number_for events (same ∙ ap (λ (m : MarkingAnswer). m.marking) make.kept)
-    ∙ fresh_accepted make.given.0 (sym (ap (λ (m : MarkingAnswer). m.number) make.kept) ∙ done)
+pub fresh_marking_accepted : (make : MakesFresh) (judge : JudgesMarking) (m : Marking) → make.answer ≡ Ok m
+    → judge.given.0 ≡ make.given.0 → judge.given.1.0.now ≡ m → judge.answer ≡ Ok tt
+fresh_marking_accepted make judge m done events same =
+    let told = marking_is m (freshAnswer make.given.0) make.answer done make.kept in
+    outcome_once judge.answer (Ok tt) (judge.kept ∙ ap₂ marking_number_for events (same ∙ sym told.1) ∙ fresh_accepted make.given.0 told.0)
 
 -- Reading what was written gives the marking back, with event places past the count 0.
-pub written_then_read : (write : WritesMarking) (read : ReadsMarking) → write.answer ≡ 0
-    → read.given.0 ≡ write.given.0.events → read.given.1.0.now ≡ take (record_bytes * write.given.0.events) write.left.1.0.now
-    → read.answer ≡ record { number = 0; marking = marking_from write.given.0.events (record_of write.given.0) }
+pub written_then_read : (write : WritesMarking) (read : ReadsMarking) → write.answer ≡ Ok tt
+    → read.given.0 ≡ write.given.0.now.events → read.given.1.0.now ≡ take (record_bytes * write.given.0.now.events) write.left.1.0.now
+    → read.answer ≡ Ok (marking_from write.given.0.now.events (record_of write.given.0.now))
 written_then_read write read done events bytes =
-    let m = write.given.0 in
+    let m = write.given.0.now in
     let buffer = write.given.1.0.now in
-    read.kept
+    marking_once empty_marking read.answer (Ok (marking_from m.events (record_of m)))
+    (read.kept
     ∙ ap₂ read_marking events (bytes ∙ ap (take (record_bytes * m.events)) write.kept.1)
-    ∙ written_is_read m buffer (sym write.kept.0 ∙ done)
+    ∙ written_is_read m buffer (sym write.kept.0 ∙ ap number_of done))
 
 -- Reading what was carried over gives the marking of the old image.
-pub carried_then_read : (carry : CarriesMarking) (read : ReadsMarking) → carry.answer ≡ 0
+pub carried_then_read : (carry : CarriesMarking) (read : ReadsMarking) → carry.answer ≡ Ok tt
     → read.given.0 ≡ carry.given.0 → read.given.1.0.now ≡ take (record_bytes * carry.given.0) carry.left.1.1.0.now
-    → read.answer ≡ record { number = 0; marking = carried carry.given.0 carry.given.1.0.now }
+    → read.answer ≡ Ok (carried carry.given.0 carry.given.1.0.now)
 carried_then_read carry read done events bytes =
     let n = carry.given.0 in
-    read.kept
+    marking_once empty_marking read.answer (Ok (carried n carry.given.1.0.now))
+    (read.kept
     ∙ ap₂ read_marking events (bytes ∙ ap (take (record_bytes * n)) carry.kept.1)
-    ∙ carried_is_read n carry.given.1.0.now carry.given.1.1.0.now (sym carry.kept.0 ∙ done)
+    ∙ carried_is_read n carry.given.1.0.now carry.given.1.1.0.now (sym carry.kept.0 ∙ ap number_of done))
 
 -- Writing what was read gives the same bytes, and later bytes stay. That each place of a slice is a byte is a fact of its type.
-pub read_then_written : (read : ReadsMarking) (write : WritesMarking) → read.answer.number ≡ 0
+pub read_then_written : (read : ReadsMarking) (write : WritesMarking) (m : Marking) → read.answer ≡ Ok m
     → ((i : ℕ) → get_or read.given.1.0.now i 0 < 256)
-    → write.given.0 ≡ read.answer.marking → record_bytes * read.given.0 ≤ length write.given.1.0.now
-    → (write.answer ≡ 0) × (write.left.1.0.now ≡ read.given.1.0.now ++ drop (record_bytes * read.given.0) write.given.1.0.now)
-read_then_written read write done bytes same long =
+    → write.given.0.now ≡ m → record_bytes * read.given.0 ≤ length write.given.1.0.now
+    → (write.answer ≡ Ok tt) × (write.left.1.0.now ≡ read.given.1.0.now ++ drop (record_bytes * read.given.0) write.given.1.0.now)
+read_then_written read write m done bytes same long =
     let events = read.given.0 in
     let image = read.given.1.0.now in
     let buffer = write.given.1.0.now in
-    let m : write.given.0 ≡ (read_marking events image).marking = same ∙ ap (λ (a : MarkingAnswer). a.marking) read.kept in
-    let round = read_is_written events image buffer bytes (sym (ap (λ (a : MarkingAnswer). a.number) read.kept) ∙ done) long in (
-      write.kept.0 ∙ ap (λ (k : Marking). write_number k (length buffer)) m ∙ round.0,
+    let told = marking_is m (read_marking events image) read.answer done read.kept in
+    let m : write.given.0.now ≡ (read_marking events image).marking = same ∙ sym told.1 in
+    let round = read_is_written events image buffer bytes told.0 long in (
+      outcome_once write.answer (Ok tt) (write.kept.0 ∙ ap (λ (k : Marking). write_number k (length buffer)) m ∙ round.0),
       write.kept.1 ∙ ap (λ (k : Marking). write_marking k buffer) m ∙ round.1,
     )

@@ -1,32 +1,25 @@
 // Whole bytes as one number, high byte first, in and out. Fields are then quotients and remainders of the number.
-ghost use Rattle.std.specs.Prelude.{◌≡◌, ◌++◌, ◌+◌, ◌*◌, ◌≤◌, length, take, drop};
+ghost use Rattle.std.specs.Prelude.{◌≡◌, ◌*◌, ◌≤◌, length};
 ghost use Rattle.rules.specs.Fields.{field, bytes_of};
 
 // A field of ticks, as an age, a time or a deadline, has 30 bits: it is a remainder by this.
 pub const TICKS: u64 = 1_073_741_824;
 
-// The number in `count` bytes from byte `at` on.
-pub fn word(image: &[u8], at: usize, count: usize) -> u64
-    requires { (at + count ≤ length image.now) × (count ≤ 8) }
-    ensures { result ≡ field image.now (8 * at) (8 * count) }
+// The number in the bytes.
+pub fn word(bytes: &[u8]) -> u64
+    requires { length bytes.now ≤ 8 }
+    ensures { result ≡ field bytes.now 0 (8 * length bytes.now) }
 {
-    let mut v: u64 = 0;
-    let mut i = 0;
-    while i < count {
-        v = v * 256 + image[at + i] as u64;
-        i += 1;
-    }
-    v
+    let mut eight = [0; 8];
+    eight[8 - bytes.len()..].copy_from_slice(bytes);
+    u64::from_be_bytes(eight)
 }
 
-// The `count` bytes from byte `at` on become the number's.
-pub fn put_word(buffer: &mut [u8], at: usize, count: usize, v: u64)
-    requires { (at + count ≤ length buffer.old) × (count ≤ 8) }
-    ensures { buffer.new ≡ take at buffer.old ++ bytes_of count v ++ drop (at + count) buffer.old }
+// The bytes become the number's.
+pub fn put_word(bytes: &mut [u8], v: u64)
+    requires { length bytes.old ≤ 8 }
+    ensures { bytes.new ≡ bytes_of (length bytes.old) v }
 {
-    let mut i = 0;
-    while i < count {
-        buffer[at + i] = ((v >> (8 * (count - 1 - i))) % 256) as u8;
-        i += 1;
-    }
+    let behind = 8 - bytes.len();
+    bytes.copy_from_slice(&v.to_be_bytes()[behind..]);
 }

@@ -1,87 +1,79 @@
 // Judging decoded values, one record and one relation at a time.
-ghost use Rattle.std.specs.Prelude.{◌≡◌, cond, ◌≤◌};
-ghost use Rattle.rules.specs.Numbers.{first_of};
+ghost use Rattle.std.specs.Prelude.{◌≡◌, cond, not, ◌&&◌, ◌≤◌};
+ghost use Rattle.rules.specs.Numbers.{◌if◌, first_of};
 ghost use Rattle.rules.specs.Holds.{limit, count_limit, most_events, most_relations, relation_of, record_of};
-ghost use Rattle.rules.specs.Judge.{events_fit, time_fits, relation_number, state_fits, count_fits_lem, record_fits, record_number, marking_number};
+ghost use Rattle.rules.specs.Judge.{events_fit, relations_fit, time_fits, relation_number, state_fits, count_fits_lem, record_fits, record_number, marking_number};
+ghost use Rattle.rules.specs.Results.{number_of};
 
-use rules::{Marking, Record, Relation, Table};
+use rules::{Marking, Record, Refusal, Relation, Table};
 
 // 1 event or more, and no more than the most.
-pub fn events_fit(n: usize) -> bool
+fn events_fit(n: usize) -> bool
     ensures { result ≡ events_fit n }
 {
-    if n < 1 {
-        return false;
+    (1..=Table::MOST_EVENTS).contains(&n)
+}
+
+// How many events a marking is for: 3.
+pub fn events(n: usize) -> Result<(), Refusal>
+    ensures { number_of result ≡ (3 if not (events_fit n)) }
+{
+    if events_fit(n) {
+        Ok(())
+    } else {
+        Err(Refusal::Counts)
     }
-    n <= Table::MOST_EVENTS
+}
+
+// How many events and relations a table has: 3.
+pub fn counts(events: usize, relations: usize) -> Result<(), Refusal>
+    ensures { number_of result ≡ (3 if not (events_fit events && relations_fit relations)) }
+{
+    if events_fit(events) && relations <= Table::MOST_RELATIONS {
+        Ok(())
+    } else {
+        Err(Refusal::Counts)
+    }
 }
 
 // Bounded and time fit the kind.
-fn time_fits(k: Relation) -> bool
-    ensures { result ≡ time_fits k }
+#[tactic(auto, unfolding(rules::specs::Judge::time_fits))]
+fn time_fits(k: &Relation) -> bool
+    ensures { result ≡ time_fits k.now }
 {
-    if k.kind == 1 {
-        if k.bounded {
-            return k.time <= Marking::AGE_LIMIT;
-        }
-        return false;
+    match (k.kind, k.bounded) {
+        (1, bounded) => bounded && k.time <= Marking::AGE_LIMIT,
+        (2, true) => (1..=Marking::AGE_LIMIT).contains(&k.time),
+        (_, bounded) => !bounded && k.time == 0,
     }
-    if k.kind == 2 {
-        if k.bounded {
-            if k.time < 1 {
-                return false;
-            }
-            return k.time <= Marking::AGE_LIMIT;
-        }
-        return k.time == 0;
-    }
-    if k.bounded {
-        return false;
-    }
-    k.time == 0
 }
 
 // A relation of a table with so many events: 4, 5, 6.
-pub fn relation_number(events: usize, k: Relation) -> u8
-    ensures { result ≡ relation_number events k }
+#[tactic(auto, unfolding(rules::specs::Judge::relation_number))]
+pub fn relation(events: usize, k: &Relation) -> Result<(), Refusal>
+    ensures { number_of result ≡ relation_number events k.now }
 {
-    if k.kind < 1 {
-        return 4;
+    if !(1..=5).contains(&k.kind) {
+        return Err(Refusal::Kind);
     }
-    if 5 < k.kind {
-        return 4;
-    }
-    let left = k.left as usize;
-    if events <= left {
-        return 5;
-    }
-    let right = k.right as usize;
-    if events <= right {
-        return 5;
+    if events <= k.left as usize || events <= k.right as usize {
+        return Err(Refusal::Ends);
     }
     if !time_fits(k) {
-        return 6;
+        return Err(Refusal::Time);
     }
-    0
+    Ok(())
 }
 
-// The first number, if any, that a relation of the table gives.
-pub fn relations_number(t: Table) -> u8
-    requires { t.count ≤ most_relations }
-    ensures { result ≡ first_of t.count (λ k. relation_number t.events (relation_of t k)) }
+// The relations of a table, in order.
+pub fn relations(t: &Table) -> Result<(), Refusal>
+    requires { t.now.count ≤ most_relations }
+    ensures { number_of result ≡ first_of t.now.count (λ k. relation_number t.now.events (relation_of t.now k)) }
 {
-    let events = t.events;
-    let n = t.count;
-    let mut i = 0;
-    while i < n {
-        let k = t.relations[i];
-        let number = relation_number(events, k);
-        if number != 0 {
-            return number;
-        }
-        i += 1;
+    for k in &t.relations[..t.count] {
+        relation(t.events, k)?;
     }
-    0
+    Ok(())
 }
 
 // The most that an age or a deadline may be, by whether there is one. The constant is the definitions' limit.
@@ -93,74 +85,50 @@ fn limit_if(there: bool) -> u32
 }
 
 // Age, bounded and deadline keep the rules of a record.
-fn state_fits(r: Record) -> bool
-    ensures { result ≡ state_fits r }
+#[tactic(auto, unfolding(rules::specs::Judge::state_fits))]
+fn state_fits(r: &Record) -> bool
+    ensures { result ≡ state_fits r.now }
 {
-    let oldest = limit_if(r.happened);
-    if oldest < r.age {
-        return false;
-    }
-    let latest = limit_if(r.bounded);
-    if r.pending {
-        return r.deadline <= latest;
-    }
-    if r.bounded {
-        return false;
-    }
-    r.deadline <= latest
+    r.age <= limit_if(r.happened) && (r.pending || !r.bounded) && r.deadline <= limit_if(r.bounded)
 }
 
 // The count agrees with whether the event has happened. No number of its type is above its limit.
-fn count_fits(r: Record) -> bool
-    ensures fits { result ≡ count_fits_lem r }
+#[tactic(auto, unfolding(rules::specs::Judge::count_fits_lem))]
+fn count_fits(r: &Record) -> bool
+    ensures fits { result ≡ count_fits_lem r.now }
     ensures constant { Marking.COUNT_LIMIT ≡ count_limit }
 {
-    if r.happened {
-        return 1 <= r.count;
-    }
-    r.count == 0
-}
-
-fn record_fits(r: Record) -> bool
-    ensures { result ≡ record_fits r }
-{
-    if state_fits(r) {
-        return count_fits(r);
-    }
-    false
+    r.happened == (1 <= r.count)
 }
 
 // A record: 7.
-pub fn record_number(r: Record) -> u8
-    ensures { result ≡ record_number r }
+#[tactic(auto, unfolding(rules::specs::Judge::record_fits))]
+pub fn record(r: &Record) -> Result<(), Refusal>
+    ensures { number_of result ≡ record_number r.now }
 {
-    if record_fits(r) { 0 } else { 7 }
+    if state_fits(r) && count_fits(r) {
+        Ok(())
+    } else {
+        Err(Refusal::Record)
+    }
+}
+
+// The records of a marking, in order.
+fn records(m: &Marking) -> Result<(), Refusal>
+    requires { m.now.events ≤ most_events }
+    ensures { number_of result ≡ first_of m.now.events (λ e. record_number (record_of m.now e)) }
+{
+    for r in &m.records[..m.events] {
+        record(r)?;
+    }
+    Ok(())
 }
 
 // A marking by itself: 3, 7.
-pub fn marking_number(m: Marking) -> u8
-    ensures { result ≡ marking_number m }
+#[tactic(auto, unfolding(rules::specs::Judge::marking_number))]
+pub fn marking(m: &Marking) -> Result<(), Refusal>
+    ensures { number_of result ≡ marking_number m.now }
 {
-    if !events_fit(m.events) {
-        return 3;
-    }
-    records_number(m)
-}
-
-// The first number, if any, that a record of the marking gives.
-fn records_number(m: Marking) -> u8
-    requires { m.events ≤ most_events }
-    ensures { result ≡ first_of m.events (λ e. record_number (record_of m e)) }
-{
-    let n = m.events;
-    let mut i = 0;
-    while i < n {
-        let r = m.records[i];
-        let number = record_number(r);
-        if number != 0 {
-            return number;
-        }
-        i += 1;
-    }
-    0
+    events(m.events)?;
+    records(m)
 }

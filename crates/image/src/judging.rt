@@ -1,30 +1,28 @@
-// Judging what a call is handed: the table first, then the marking, then the event asked about. A table is handed over once, to its own
-// judge, whose number is handed on.
+// Judging what a call is handed: the table first, then the marking; and whether the event or relation asked about exists.
 ghost use Rattle.std.specs.Prelude.{◌≡◌, not, ltb};
-ghost use Rattle.rules.specs.Numbers.{◌if◌, ◌else◌};
-ghost use Rattle.rules.specs.Judge.{marking_number_for};
+ghost use Rattle.rules.specs.Numbers.{◌if◌};
+ghost use Rattle.rules.specs.Judge.{judged};
+ghost use Rattle.rules.specs.Results.{number_of};
 
-use rules::Marking;
+use crate::{judge_marking, judge_table};
+use rules::{Marking, Refusal, Table};
 
-// The number of the table, else that of the marking.
-pub fn then_marking(number: u8, events: usize, m: Marking) -> u8
-    ensures { result ≡ (number else marking_number_for events m) }
+// The table, then the marking.
+#[tactic(auto, unfolding(rules::specs::Judge::judged))]
+pub fn judge(t: &Table, m: &Marking) -> Result<(), Refusal>
+    ensures { number_of result ≡ judged t.now m.now }
 {
-    if number == 0 {
-        return crate::judge_marking(events, m);
-    }
-    number
+    judge_table(t)?;
+    judge_marking(t.events, m)
 }
 
-// The number so far, else that of the event.
-pub fn then_event(number: u8, events: usize, event: usize) -> u8
-    ensures { result ≡ (number else 8 if not (ltb event events)) }
+// Whether what is asked about is one of so many.
+pub fn exists(asked: usize, there: usize) -> Result<(), Refusal>
+    ensures { number_of result ≡ (8 if not (ltb asked there)) }
 {
-    if number == 0 {
-        if event < events {
-            return 0;
-        }
-        return 8;
+    if asked < there {
+        Ok(())
+    } else {
+        Err(Refusal::NotThere)
     }
-    number
 }

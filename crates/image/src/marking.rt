@@ -1,14 +1,15 @@
 // The records of a marking, in and out of an image.
-ghost use Rattle.std.specs.Prelude.{◌≡◌, ◌++◌, ◌+◌, ◌*◌, ◌≤◌, length, take, drop};
+ghost use Rattle.std.specs.Prelude.{◌≡◌, ◌++◌, ◌*◌, ◌≤◌, length, drop, IfOk};
 ghost use Rattle.rules.specs.Holds.{most_events};
 ghost use Rattle.rules.specs.Judge.{record_number, marking_number};
 ghost use Rattle.rules.specs.Image.{record_bytes, record_at, record_image, marking_image};
 ghost use Rattle.rules.specs.Carrying.{old_record_bytes, carried};
+ghost use Rattle.rules.specs.Results.{number_of};
 ghost use Rattle.image.specs.Packed.{record_of_word, word_of_record};
-ghost use Rattle.image.specs.Parts.{records_read};
+ghost use Rattle.image.specs.Parts.{records_number, records_in};
 
 use crate::{bits, judge};
-use rules::{Marking, MarkingAnswer, Record};
+use rules::{Marking, Record, Refusal, Table};
 
 // The bytes of a record's fields before its count. A record of the time before counts is these alone.
 pub const STATE_BYTES: usize = 8;
@@ -29,9 +30,10 @@ fn record_of(w: u64, count: u32) -> Record
 }
 
 // The number that the bytes before a record's count hold.
-fn word_of(r: Record) -> u64
-    requires { record_number r ≡ 0 }
-    ensures { result ≡ word_of_record r }
+#[tactic(auto, using(crate::specs::Laws::Packed::machine_fits, crate::specs::Laws::Packed::flag_byte))]
+fn word_of(r: &Record) -> u64
+    requires { record_number r.now ≡ 0 }
+    ensures { result ≡ word_of_record r.now }
 {
     let mut w = r.happened as u64;
     w = w * bits::TICKS + r.age as u64;
@@ -41,57 +43,49 @@ fn word_of(r: Record) -> u64
     w * bits::TICKS + r.deadline as u64
 }
 
-// The record from byte `at` on.
-fn record_at(image: &[u8], at: usize) -> Record
-    requires { at + record_bytes ≤ length image.now }
-    ensures { result ≡ record_at image.now (8 * at) }
+// The record that its bytes hold.
+fn record_from(bytes: &[u8]) -> Record
+    requires { length bytes.now ≡ record_bytes }
+    ensures { result ≡ record_at bytes.now 0 }
 {
-    let count = bits::word(image, at + STATE_BYTES, 4) as u32;
-    record_of(bits::word(image, at, STATE_BYTES), count)
+    let (state, count) = bytes.split_at(STATE_BYTES);
+    record_of(bits::word(state), bits::word(count) as u32)
 }
 
-// The bytes from `at` on become a record's.
-fn put_record(r: Record, buffer: &mut [u8], at: usize)
-    requires { (record_number r ≡ 0) × (at + record_bytes ≤ length buffer.old) }
-    ensures { buffer.new ≡ take at buffer.old ++ record_image r ++ drop (at + record_bytes) buffer.old }
+// The bytes become a record's.
+fn put_record(r: &Record, bytes: &mut [u8])
+    requires { (record_number r.now ≡ 0) × (length bytes.old ≡ record_bytes) }
+    ensures { bytes.new ≡ record_image r.now }
 {
-    bits::put_word(buffer, at, STATE_BYTES, word_of(r));
-    bits::put_word(buffer, at + STATE_BYTES, 4, r.count as u64);
+    let (state, count) = bytes.split_at_mut(STATE_BYTES);
+    bits::put_word(state, word_of(r));
+    bits::put_word(count, r.count as u64);
 }
 
-// So many records, or the first number that one gives.
-pub fn records_in(events: usize, image: &[u8]) -> MarkingAnswer
+// So many records, if each of them is judged 'done'.
+pub fn records_in(events: usize, image: &[u8]) -> Result<Marking, Refusal>
     requires { (events ≤ most_events) × (length image.now ≡ record_bytes * events) }
-    ensures { result ≡ records_read events image.now }
+    ensures number { number_of result ≡ records_number events image.now }
+    ensures records { IfOk result (λ m. m ≡ records_in events image.now) }
 {
-    let mut records = Marking::empty().records;
-    let mut i = 0;
-    while i < events {
-        let r = record_at(image, Marking::RECORD_BYTES * i);
-        let number = judge::record_number(r);
-        if number != 0 {
-            return MarkingAnswer::refused(number);
-        }
-        records[i] = r;
-        i += 1;
+    let mut records = [Record::EMPTY; Table::MOST_EVENTS];
+    for e in 0..events {
+        let at = Marking::RECORD_BYTES * e;
+        let r = record_from(&image[at..at + Marking::RECORD_BYTES]);
+        judge::record(&r)?;
+        records[e] = r;
     }
-    MarkingAnswer {
-        number: 0,
-        marking: Marking { records, events },
-    }
+    Ok(Marking { records, events })
 }
 
 // The records of a marking that is judged 'done', into a buffer with room for them.
-pub fn put_records(m: Marking, buffer: &mut [u8])
-    requires { (marking_number m ≡ 0) × (record_bytes * m.events ≤ length buffer.old) }
-    ensures { buffer.new ≡ marking_image m ++ drop (record_bytes * m.events) buffer.old }
+pub fn put_records(m: &Marking, buffer: &mut [u8])
+    requires { (marking_number m.now ≡ 0) × (record_bytes * m.now.events ≤ length buffer.old) }
+    ensures { buffer.new ≡ marking_image m.now ++ drop (record_bytes * m.now.events) buffer.old }
 {
-    let n = m.events;
-    let mut i = 0;
-    while i < n {
-        let r = m.records[i];
-        put_record(r, buffer, Marking::RECORD_BYTES * i);
-        i += 1;
+    for (e, r) in m.records[..m.events].iter().enumerate() {
+        let at = Marking::RECORD_BYTES * e;
+        put_record(r, &mut buffer[at..at + Marking::RECORD_BYTES]);
     }
 }
 
@@ -100,12 +94,11 @@ pub fn carried_in(events: usize, old: &[u8]) -> Marking
     requires { (events ≤ most_events) × (length old.now ≡ old_record_bytes * events) }
     ensures { result ≡ carried events old.now }
 {
-    let mut records = Marking::empty().records;
-    let mut i = 0;
-    while i < events {
-        let w = bits::word(old, STATE_BYTES * i, STATE_BYTES);
-        records[i] = record_of(w, (w >> 63) as u32);
-        i += 1;
+    let mut records = [Record::EMPTY; Table::MOST_EVENTS];
+    for e in 0..events {
+        let at = STATE_BYTES * e;
+        let w = bits::word(&old[at..at + STATE_BYTES]);
+        records[e] = record_of(w, (w >> 63) as u32);
     }
     Marking { records, events }
 }

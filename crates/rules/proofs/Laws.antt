@@ -2,6 +2,7 @@
 pub mod Tests
 pub mod Counting
 pub mod Numbers
+pub mod Results
 pub mod EventSet
 pub mod Bitwise
 pub mod Judge

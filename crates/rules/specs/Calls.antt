@@ -4,12 +4,8 @@ use Rattle.std.specs.Prelude.{◌≡◌, true, false, cond, List, [], ◌∷◌,
 use Rattle.rules.specs.declared.Table.{Table}
 use Rattle.rules.specs.declared.Marking.{Marking}
 use Rattle.rules.specs.declared.Step.{Step}
-use Rattle.rules.specs.declared.SetAnswer.{SetAnswer}
-use Rattle.rules.specs.declared.MarkingAnswer.{MarkingAnswer}
-use Rattle.rules.specs.declared.CheckAnswer.{CheckAnswer}
-use Rattle.rules.specs.declared.CheckAnswer.TheVariants.{Accepts}
-use Rattle.rules.specs.declared.GuardedAnswer.{GuardedAnswer}
-use Rattle.rules.specs.declared.RemedyAnswer.{RemedyAnswer}
+use Rattle.rules.specs.Answers.{SetAnswer, MarkingAnswer, GuardedAnswer, RemedyAnswer}
+use Rattle.rules.specs.CheckAnswer.{CheckAnswer, Accepts}
 use Rattle.rules.specs.Numbers.{done}
 use Rattle.rules.specs.EventSet.{has}
 use Rattle.rules.specs.Holds.{most_events, is_controllable, is_causable}

@@ -6,23 +6,11 @@ use Rattle.rules.specs.declared.Table.{Table}
 use Rattle.rules.specs.declared.Record.{Record}
 use Rattle.rules.specs.declared.Marking.{Marking}
 use Rattle.rules.specs.declared.Step.{Step}
-use Rattle.rules.specs.declared.MarkingAnswer.{MarkingAnswer}
-use Rattle.rules.specs.declared.EnabledAnswer.{EnabledAnswer}
-use Rattle.rules.specs.declared.SetAnswer.{SetAnswer}
-use Rattle.rules.specs.declared.ClosureAnswer.{ClosureAnswer}
-use Rattle.rules.specs.declared.Rest.TheVariants.{Never as never, By as byTicks}
-use Rattle.rules.specs.declared.MarginAnswer.{MarginAnswer}
-use Rattle.rules.specs.declared.MarginAnswer.TheVariants.{NotACondition, Ignored, Never, By}
-use Rattle.rules.specs.declared.HoldUpAnswer.{HoldUpAnswer}
-use Rattle.rules.specs.declared.HoldUpAnswer.TheVariants.{Enabled, EnabledUnless, Excluded, Blocked}
-use Rattle.rules.specs.declared.ChainAnswer.{ChainAnswer}
-use Rattle.rules.specs.declared.CheckAnswer.{CheckAnswer}
-use Rattle.rules.specs.declared.CheckAnswer.TheVariants.{Accepts, Rejects}
-use Rattle.rules.specs.declared.ToldMargin.{ToldMargin}
-use Rattle.rules.specs.declared.ToldHoldUp.{ToldHoldUp}
-use Rattle.rules.specs.declared.ToldCheck.{ToldCheck}
-use Rattle.rules.specs.declared.GuardedAnswer.{GuardedAnswer}
-use Rattle.rules.specs.declared.RemedyAnswer.{RemedyAnswer}
+use Rattle.rules.specs.Answers.{MarkingAnswer, EnabledAnswer, SetAnswer, ClosureAnswer, ChainAnswer, ToldMargin, ToldHoldUp, ToldCheck, GuardedAnswer, RemedyAnswer}
+use Rattle.rules.specs.Rest.{Never as never, By as byTicks}
+use Rattle.rules.specs.MarginAnswer.{MarginAnswer, NotACondition, Ignored, Never, By}
+use Rattle.rules.specs.HoldUpAnswer.{HoldUpAnswer, Enabled, EnabledUnless, Excluded, Blocked}
+use Rattle.rules.specs.CheckAnswer.{CheckAnswer, Accepts, Rejects}
 use Rattle.rules.specs.Counting.{every, some, lowest, how_many, repeated, places_from, below_from}
 use Rattle.rules.specs.Numbers.{first_of}
 use Rattle.rules.specs.EventSet.{has, with_event, set_of, size_of, lowest_of}

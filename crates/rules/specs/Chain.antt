@@ -3,8 +3,8 @@
 use Rattle.std.specs.Prelude.{◌≡◌, Bool, false, not, ◌&&◌, ◌||◌, cond, List, [], ◌∷◌, ◌++◌, map, ℕ, zero, suc, ◌+◌, ◌*◌, ◌<◌, ◌≤◌, eqb, ltb, length, get_or, drop}
 use Rattle.rules.specs.declared.Table.{Table}
 use Rattle.rules.specs.declared.Marking.{Marking}
-use Rattle.rules.specs.declared.ChainAnswer.{ChainAnswer}
-use Rattle.rules.specs.declared.HoldUpAnswer.TheVariants.{Blocked}
+use Rattle.rules.specs.Answers.{ChainAnswer}
+use Rattle.rules.specs.HoldUpAnswer.{Blocked}
 use Rattle.rules.specs.Numbers.{◌if◌, ◌else◌, done}
 use Rattle.rules.specs.EventSet.{has, with_event, set_of}
 use Rattle.rules.specs.Holds.{most_events, most_relations, relation_of, record_of}

@@ -2,9 +2,8 @@
 use Rattle.std.specs.Prelude.{Bool, not, ◌&&◌, ◌||◌, cond, ℕ, eqb, ltb}
 use Rattle.rules.specs.declared.Table.{Table}
 use Rattle.rules.specs.declared.Marking.{Marking}
-use Rattle.rules.specs.declared.CheckAnswer.{CheckAnswer}
-use Rattle.rules.specs.declared.CheckAnswer.TheVariants.{Refused, Accepts, Rejects}
-use Rattle.rules.specs.declared.ToldCheck.{ToldCheck}
+use Rattle.rules.specs.CheckAnswer.{CheckAnswer, Refused, Accepts, Rejects}
+use Rattle.rules.specs.Answers.{ToldCheck}
 use Rattle.rules.specs.Counting.{some, lowest}
 use Rattle.rules.specs.Numbers.{◌if◌, ◌else◌, done}
 use Rattle.rules.specs.EventSet.{has, set_of}

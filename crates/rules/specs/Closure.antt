@@ -4,7 +4,7 @@ use Rattle.std.specs.Prelude.{Bool, ◌&&◌, ◌||◌, ℕ, eqb}
 use Rattle.rules.specs.declared.Relation.{Relation}
 use Rattle.rules.specs.declared.Table.{Table}
 use Rattle.rules.specs.declared.Marking.{Marking}
-use Rattle.rules.specs.declared.ClosureAnswer.{ClosureAnswer}
+use Rattle.rules.specs.Answers.{ClosureAnswer}
 use Rattle.rules.specs.Counting.{some, repeated}
 use Rattle.rules.specs.Numbers.{done}
 use Rattle.rules.specs.EventSet.{has, set_of, size_of}

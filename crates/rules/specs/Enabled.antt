@@ -5,7 +5,7 @@ use Rattle.rules.specs.declared.Relation.{Relation}
 use Rattle.rules.specs.declared.Table.{Table}
 use Rattle.rules.specs.declared.Record.{Record}
 use Rattle.rules.specs.declared.Marking.{Marking}
-use Rattle.rules.specs.declared.EnabledAnswer.{EnabledAnswer}
+use Rattle.rules.specs.Answers.{EnabledAnswer}
 use Rattle.rules.specs.Counting.{some}
 use Rattle.rules.specs.Numbers.{◌else◌, done}
 use Rattle.rules.specs.Holds.{is_condition, is_milestone, relation_of, record_of}

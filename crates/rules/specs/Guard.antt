@@ -7,7 +7,7 @@ use Rattle.rules.specs.declared.Relation.{Relation}
 use Rattle.rules.specs.declared.Table.{Table}
 use Rattle.rules.specs.declared.Record.{Record}
 use Rattle.rules.specs.declared.Marking.{Marking}
-use Rattle.rules.specs.declared.GuardedAnswer.{GuardedAnswer}
+use Rattle.rules.specs.Answers.{GuardedAnswer}
 use Rattle.rules.specs.Counting.{some, lowest}
 use Rattle.rules.specs.Numbers.{done, check_number, check_reason, check_place}
 use Rattle.rules.specs.EventSet.{has}

@@ -2,7 +2,7 @@
 use Rattle.std.specs.Prelude.{not, ℕ}
 use Rattle.rules.specs.declared.Table.{Table}
 use Rattle.rules.specs.declared.Marking.{Marking}
-use Rattle.rules.specs.declared.MarkingAnswer.{MarkingAnswer}
+use Rattle.rules.specs.Answers.{MarkingAnswer}
 use Rattle.rules.specs.Numbers.{◌if◌, ◌else◌, done}
 use Rattle.rules.specs.Judge.{judged, event_number}
 use Rattle.rules.specs.Enabled.{is_enabled}

@@ -3,9 +3,8 @@
 use Rattle.std.specs.Prelude.{Bool, not, ◌&&◌, cond, ℕ, eqb, ltb}
 use Rattle.rules.specs.declared.Table.{Table}
 use Rattle.rules.specs.declared.Marking.{Marking}
-use Rattle.rules.specs.declared.HoldUpAnswer.{HoldUpAnswer}
-use Rattle.rules.specs.declared.HoldUpAnswer.TheVariants.{Refused, Enabled, EnabledUnless, Excluded, Blocked}
-use Rattle.rules.specs.declared.ToldHoldUp.{ToldHoldUp}
+use Rattle.rules.specs.HoldUpAnswer.{HoldUpAnswer, Refused, Enabled, EnabledUnless, Excluded, Blocked}
+use Rattle.rules.specs.Answers.{ToldHoldUp}
 use Rattle.rules.specs.Counting.{some, lowest}
 use Rattle.rules.specs.Numbers.{◌else◌, done}
 use Rattle.rules.specs.Holds.{relation_of, record_of}

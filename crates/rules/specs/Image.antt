@@ -4,8 +4,7 @@ use Rattle.rules.specs.declared.Relation.{Relation}
 use Rattle.rules.specs.declared.Table.{Table}
 use Rattle.rules.specs.declared.Record.{Record}
 use Rattle.rules.specs.declared.Marking.{Marking}
-use Rattle.rules.specs.declared.TableAnswer.{TableAnswer}
-use Rattle.rules.specs.declared.MarkingAnswer.{MarkingAnswer}
+use Rattle.rules.specs.Answers.{TableAnswer, MarkingAnswer}
 use Rattle.rules.specs.Counting.{places}
 use Rattle.rules.specs.Numbers.{◌if◌, ◌else◌, first_of, done}
 use Rattle.rules.specs.EventSet.{set_of}

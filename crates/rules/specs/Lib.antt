@@ -1,6 +1,12 @@
 -- What must be believed: the rules of docs/RULES.md, one file for one of its headings, in its order; then the calls for C, over images.
+pub mod Answers
+pub mod Rest
+pub mod MarginAnswer
+pub mod HoldUpAnswer
+pub mod CheckAnswer
 pub mod Counting
 pub mod Numbers
+pub mod Results
 pub mod EventSet
 pub mod Holds
 pub mod Fields

@@ -5,11 +5,9 @@ use Rattle.rules.specs.declared.Relation.{Relation}
 use Rattle.rules.specs.declared.Table.{Table}
 use Rattle.rules.specs.declared.Record.{Record}
 use Rattle.rules.specs.declared.Marking.{Marking}
-use Rattle.rules.specs.declared.Rest.{Rest}
-use Rattle.rules.specs.declared.Rest.TheVariants.{Never as never, By as by}
-use Rattle.rules.specs.declared.MarginAnswer.{MarginAnswer}
-use Rattle.rules.specs.declared.MarginAnswer.TheVariants.{Refused, NotACondition, Ignored, Never, By}
-use Rattle.rules.specs.declared.ToldMargin.{ToldMargin}
+use Rattle.rules.specs.Rest.{Rest, Never as never, By as by}
+use Rattle.rules.specs.MarginAnswer.{MarginAnswer, Refused, NotACondition, Ignored, Never, By}
+use Rattle.rules.specs.Answers.{ToldMargin}
 use Rattle.rules.specs.Numbers.{◌if◌, ◌else◌, done}
 use Rattle.rules.specs.Holds.{is_condition, relation_of, record_of}
 use Rattle.rules.specs.Judge.{judged}

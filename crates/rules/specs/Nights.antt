@@ -3,7 +3,7 @@
 use Rattle.std.specs.Prelude.{◌≡◌, refl, true, List, [], ◌∷◌, ◌++◌, map, ℕ, ◌-◌, length, replicate}
 use Rattle.rules.specs.declared.Table.{Table}
 use Rattle.rules.specs.declared.Marking.{Marking}
-use Rattle.rules.specs.declared.SleptAnswer.{SleptAnswer}
+use Rattle.rules.specs.Answers.{SleptAnswer}
 use Rattle.rules.specs.declared.Step.{Step}
 use Rattle.rules.specs.Counting.{every, some, lowest, how_many, repeated, places_from, below_from}
 use Rattle.rules.specs.Numbers.{first_of}

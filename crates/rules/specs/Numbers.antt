@@ -1,16 +1,11 @@
 -- Numbers given for refusal. 0 is 'done'; a rule gives its number if it is broken, else the next rule is asked.
 -- For each answer that is an enum: the paper's number and values for each of its cases; the cases counted in the paper's order.
 use Rattle.std.specs.Prelude.{Bool, true, false, cond, ℕ, zero, suc, eqb, pos}
-use Rattle.rules.specs.declared.Rest.TheVariants.{Never as never, By as by}
-use Rattle.rules.specs.declared.MarginAnswer.{MarginAnswer}
-use Rattle.rules.specs.declared.MarginAnswer.TheVariants.{Refused as refusedMargin, NotACondition, Ignored, Never, By}
-use Rattle.rules.specs.declared.ToldMargin.{ToldMargin}
-use Rattle.rules.specs.declared.HoldUpAnswer.{HoldUpAnswer}
-use Rattle.rules.specs.declared.HoldUpAnswer.TheVariants.{Refused as refusedHoldUp, Enabled, EnabledUnless, Excluded, Blocked}
-use Rattle.rules.specs.declared.ToldHoldUp.{ToldHoldUp}
-use Rattle.rules.specs.declared.CheckAnswer.{CheckAnswer}
-use Rattle.rules.specs.declared.CheckAnswer.TheVariants.{Refused as refusedCheck, Accepts, Rejects}
-use Rattle.rules.specs.declared.ToldCheck.{ToldCheck}
+use Rattle.rules.specs.Rest.{Never as never, By as by}
+use Rattle.rules.specs.MarginAnswer.{MarginAnswer, Refused as refusedMargin, NotACondition, Ignored, Never, By}
+use Rattle.rules.specs.Answers.{ToldMargin, ToldHoldUp, ToldCheck}
+use Rattle.rules.specs.HoldUpAnswer.{HoldUpAnswer, Refused as refusedHoldUp, Enabled, EnabledUnless, Excluded, Blocked}
+use Rattle.rules.specs.CheckAnswer.{CheckAnswer, Refused as refusedCheck, Accepts, Rejects}
 
 infix 26 ◌if◌
 infixr 24 ◌else◌

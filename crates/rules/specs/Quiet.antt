@@ -3,7 +3,7 @@
 use Rattle.std.specs.Prelude.{ℕ}
 use Rattle.rules.specs.declared.Table.{Table}
 use Rattle.rules.specs.declared.Marking.{Marking}
-use Rattle.rules.specs.declared.TicksAnswer.{TicksAnswer}
+use Rattle.rules.specs.Answers.{TicksAnswer}
 use Rattle.rules.specs.Counting.{lowest, repeated}
 use Rattle.rules.specs.Numbers.{done}
 use Rattle.rules.specs.Judge.{judged}

@@ -4,7 +4,7 @@
 use Rattle.std.specs.Prelude.{Bool, true, false, not, ◌&&◌, ◌||◌, cond, List, [], ◌∷◌, ℕ, suc, leb, ltb, length, take}
 use Rattle.rules.specs.declared.Table.{Table}
 use Rattle.rules.specs.declared.Marking.{Marking}
-use Rattle.rules.specs.declared.RemedyAnswer.{RemedyAnswer}
+use Rattle.rules.specs.Answers.{RemedyAnswer}
 use Rattle.rules.specs.Counting.{lowest}
 use Rattle.rules.specs.Numbers.{◌if◌, ◌else◌, done}
 use Rattle.rules.specs.Holds.{is_causable}

@@ -3,9 +3,8 @@
 use Rattle.std.specs.Prelude.{List, [], ◌++◌, map, ℕ, zero, suc, ◌+◌, ◌*◌, ltb, length, drop}
 use Rattle.rules.specs.declared.Table.{Table}
 use Rattle.rules.specs.declared.Marking.{Marking}
-use Rattle.rules.specs.declared.CheckAnswer.{CheckAnswer}
-use Rattle.rules.specs.declared.CheckAnswer.TheVariants.{Refused}
-use Rattle.rules.specs.declared.SleptAnswer.{SleptAnswer}
+use Rattle.rules.specs.CheckAnswer.{CheckAnswer, Refused}
+use Rattle.rules.specs.Answers.{SleptAnswer}
 use Rattle.rules.specs.Counting.{repeated}
 use Rattle.rules.specs.Numbers.{◌if◌, ◌else◌, done, check_number, check_reason, check_place}
 use Rattle.rules.specs.Judge.{judged}

@@ -4,9 +4,7 @@ use Rattle.std.specs.Prelude.{◌≡◌, List, ℕ, ◌<◌, ◌≤◌, length}
 use Rattle.rules.specs.declared.Table.{Table}
 use Rattle.rules.specs.declared.Marking.{Marking}
 use Rattle.rules.specs.declared.Step.{Step}
-use Rattle.rules.specs.declared.MarkingAnswer.{MarkingAnswer}
-use Rattle.rules.specs.declared.GuardedAnswer.{GuardedAnswer}
-use Rattle.rules.specs.declared.SleptAnswer.{SleptAnswer}
+use Rattle.rules.specs.Answers.{MarkingAnswer, GuardedAnswer, SleptAnswer}
 use Rattle.rules.specs.Holds.{is_controllable, is_causable, relation_of, record_of}
 use Rattle.rules.specs.Judge.{table_number, marking_number_for}
 use Rattle.rules.specs.Image.{write_table_number, write_table, write_number, write_marking}

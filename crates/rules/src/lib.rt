@@ -1,9 +1,18 @@
-// The decoded types, and the answers of the public calls. What they mean stands in specs/.
+// The decoded types, and what the public calls answer or refuse with. What they mean stands in specs/.
 #![tactic(auto)]
+
+mod answers;
+mod refusal;
+mod verdict;
 
 ghost use Rattle.std.specs.Prelude.{◌≡◌};
 ghost use Rattle.rules.specs.Holds.{empty_marking};
+ghost use Rattle.rules.specs.Results.{as_marking};
 ghost use Rattle.rules.specs.Image.{fresh as freshAnswer};
+
+pub use answers::{Closure, Guarded, HoldUp, Margin, Slept};
+pub use refusal::Refusal;
+pub use verdict::{CheckError, Reason, Rejection};
 
 // A condition, response, inclusion, exclusion or milestone: left first, right second.
 #[derive(Clone, Copy)]
@@ -55,138 +64,39 @@ pub struct Step {
     pub event: u8,
 }
 
-// The answers. A `number` is 0 for done, else the number given for refusal. A table stands before its number, so that the compiler makes it where
-// it is answered: behind the number it takes one more copy on the stack.
-#[derive(Clone, Copy)]
-pub struct TableAnswer {
-    pub table: Table,
-    pub number: u8,
+impl Relation {
+    // Every field 0.
+    pub const EMPTY: Relation = Relation {
+        kind: 0,
+        left: 0,
+        right: 0,
+        bounded: false,
+        time: 0,
+    };
 }
 
-#[derive(Clone, Copy)]
-pub struct MarkingAnswer {
-    pub number: u8,
-    pub marking: Marking,
-}
+impl Record {
+    // Every field 0.
+    pub const EMPTY: Record = Record {
+        age: 0,
+        deadline: 0,
+        happened: false,
+        included: false,
+        pending: false,
+        bounded: false,
+        count: 0,
+    };
 
-#[derive(Clone, Copy)]
-pub struct EnabledAnswer {
-    pub number: u8,
-    pub enabled: bool,
-}
-
-#[derive(Clone, Copy)]
-pub struct SetAnswer {
-    pub number: u8,
-    pub set: u64,
-}
-
-// A set, and how many events it holds.
-#[derive(Clone, Copy)]
-pub struct ClosureAnswer {
-    pub number: u8,
-    pub set: u64,
-    pub size: u32,
-}
-
-// What a condition with an included right event answers.
-#[derive(Clone, Copy)]
-pub enum Rest {
-    Never,
-    By(i32),
-}
-
-// A condition whose right event is excluded is ignored; the rest is what it would answer if that event were included.
-#[derive(Clone, Copy)]
-pub enum MarginAnswer {
-    Refused(u8),
-    NotACondition,
-    Ignored(Rest),
-    Never,
-    By(i32),
-}
-
-// Enabled unless: the relation would block if its right event were included.
-#[derive(Clone, Copy)]
-pub enum HoldUpAnswer {
-    Refused(u8),
-    Enabled,
-    EnabledUnless(usize),
-    Excluded,
-    Blocked(usize),
-}
-
-// How many relations stand in an event's way; the lent list names them.
-#[derive(Clone, Copy)]
-pub struct ChainAnswer {
-    pub number: u8,
-    pub count: usize,
-}
-
-// A rejection has the reason and the place: an event for reasons 1, 2 and 4, else a relation.
-#[derive(Clone, Copy)]
-pub enum CheckAnswer {
-    Refused(u8),
-    Accepts,
-    Rejects(u8, usize),
-}
-
-// The three of them told in numbers: what each case is in these stands in specs/Numbers.
-#[derive(Clone, Copy)]
-pub struct ToldMargin {
-    pub number: u8,
-    pub kind: u8,
-    pub ticks: i32,
-}
-
-#[derive(Clone, Copy)]
-pub struct ToldHoldUp {
-    pub number: u8,
-    pub kind: u8,
-    pub relation: usize,
-}
-
-#[derive(Clone, Copy)]
-pub struct ToldCheck {
-    pub number: u8,
-    pub reason: u8,
-    pub place: usize,
-}
-
-// The events that a guarded tick caused are the first `count` of `caused`, in order; places past them are 0.
-#[derive(Clone, Copy)]
-pub struct GuardedAnswer {
-    pub number: u8,
-    pub reason: u8,
-    pub place: usize,
-    pub caused: [u8; Table::MOST_EVENTS],
-    pub count: usize,
-    pub marking: Marking,
-}
-
-// How many events were caused while ticks were slept through; the lent list names them.
-#[derive(Clone, Copy)]
-pub struct SleptAnswer {
-    pub number: u8,
-    pub reason: u8,
-    pub place: usize,
-    pub count: usize,
-    pub marking: Marking,
-}
-
-// How many ticks can pass before one finds an event due.
-#[derive(Clone, Copy)]
-pub struct TicksAnswer {
-    pub number: u8,
-    pub ticks: usize,
-}
-
-// The first `length` bytes of the preferred list, or of the fallback.
-#[derive(Clone, Copy)]
-pub struct RemedyAnswer {
-    pub number: u8,
-    pub fallback: bool,
-    pub length: usize,
+    // Of an event that may happen, and did not yet.
+    pub const FRESH: Record = Record {
+        age: 0,
+        deadline: 0,
+        happened: false,
+        included: true,
+        pending: false,
+        bounded: false,
+        count: 0,
+    };
 }
 
 impl Table {
@@ -211,50 +121,25 @@ impl Marking {
     pub fn empty() -> Marking
         ensures { result ≡ empty_marking }
     {
-        let nothing = Record {
-            age: 0,
-            deadline: 0,
-            happened: false,
-            included: false,
-            pending: false,
-            bounded: false,
-            count: 0,
-        };
         Marking {
-            records: [nothing; Table::MOST_EVENTS],
+            records: [Record::EMPTY; Table::MOST_EVENTS],
             events: 0,
         }
     }
 
     // A fresh marking: not happened, included, not pending; 0 or above 64 events gives 3.
-    pub fn fresh(events: usize) -> MarkingAnswer
-        ensures { result ≡ freshAnswer events }
+    pub fn fresh(events: usize) -> Result<Marking, Refusal>
+        ensures { as_marking empty_marking result ≡ freshAnswer events }
     {
-        if events < 1 {
-            return MarkingAnswer::refused(3);
+        if events < 1 || Table::MOST_EVENTS < events {
+            return Err(Refusal::Counts);
         }
-        if Table::MOST_EVENTS < events {
-            return MarkingAnswer::refused(3);
+        let mut marking = Marking::empty();
+        for i in 0..events {
+            marking.records[i] = Record::FRESH;
         }
-        let ready = Record {
-            age: 0,
-            deadline: 0,
-            happened: false,
-            included: true,
-            pending: false,
-            bounded: false,
-            count: 0,
-        };
-        let mut records = Marking::empty().records;
-        let mut i = 0;
-        while i < events {
-            records[i] = ready;
-            i += 1;
-        }
-        MarkingAnswer {
-            number: 0,
-            marking: Marking { records, events },
-        }
+        marking.events = events;
+        Ok(marking)
     }
 }
 
@@ -270,21 +155,4 @@ impl Step {
     pub const PLAIN_TICK: u8 = 2;
 
     pub const GUARDED_TICK: u8 = 3;
-}
-
-impl SleptAnswer {
-    // One call passes at most so many ticks.
-    pub const MOST_TICKS: usize = 1_000_000;
-}
-
-impl MarkingAnswer {
-    // A refusal where no marking was handed in: every other part zero.
-    pub fn refused(number: u8) -> MarkingAnswer
-        ensures { result ≡ record { number = number; marking = empty_marking } }
-    {
-        MarkingAnswer {
-            number,
-            marking: Marking::empty(),
-        }
-    }
 }

@@ -4,86 +4,36 @@
 // one that failed.
 #![tactic(auto)]
 
-ghost use Rattle.std.specs.Prelude.{◌≡◌, ◌⊎◌, ◌+◌, ◌<◌, ◌≤◌, length};
+ghost use Rattle.std.specs.Prelude.{◌≡◌, ◌⊎◌, ◌<◌, ◌≤◌, length, IfOk};
 
 use engine::{LONGEST_INPUT, LONGEST_OUTPUT};
-use std::io::{Read, Stdin};
+use std::io::Stdin;
+use streams::{ReadFailed, WriteFailed};
 
-// What came of reading: so many bytes, and whether a read failed.
-#[derive(Clone, Copy)]
-struct Reading {
-    count: usize,
-    failed: bool,
-}
-
-// One read, into the space from a place on. At the end of the input it reads no bytes.
-fn read_on(mut input: Stdin, space: &mut [u8], from: usize) -> Reading
-    requires { from ≤ length space.old }
-    ensures { from + result.count ≤ length space.new }
-{
-    match input.read(&mut space[from..]) {
-        Ok(count) => Reading {
-            count,
-            failed: false,
-        },
-        Err(_) => Reading {
-            count: 0,
-            failed: true,
-        },
-    }
-}
-
-// Reads until the space is full, the input ends or a read fails.
-fn fill(input: Stdin, space: &mut [u8]) -> Reading
-    ensures { result.count ≤ length space.new }
-{
-    let mut count = 0;
-    while count < space.len() {
-        let more = read_on(input, space, count);
-        if more.count == 0 {
-            return Reading {
-                count,
-                failed: more.failed,
-            };
-        }
-        count += more.count;
-    }
-    Reading {
-        count,
-        failed: false,
-    }
-}
+// A block of what comes after the kept bytes.
+const BLOCK: usize = 4096;
 
 // How many bytes come after the kept ones: they are read and counted. A proved loop has to end, and nothing says that the input does: the
-// count stops at a number of bytes that no input has.
-fn beyond(input: Stdin) -> Reading {
-    let mut count = 0;
-    while count < 0x4000_0000_0000_0000 {
-        let mut space = [0u8; 4096];
-        let more = read_on(input, &mut space, 0);
-        if more.count == 0 {
-            return Reading {
-                count,
-                failed: more.failed,
-            };
+// blocks are as many as no input has.
+fn beyond(input: Stdin) -> Result<usize, ReadFailed> {
+    let mut count = 0usize;
+    for _ in 0..0x4_0000_0000_0000u64 {
+        let mut block = [0u8; BLOCK];
+        let more = streams::read_full(input, &mut block)?;
+        count = count.saturating_add(more);
+        if more < BLOCK {
+            break;
         }
-        count += more.count;
     }
-    Reading {
-        count,
-        failed: false,
-    }
+    Ok(count)
 }
 
 // An input that does not fill the room has nothing after it.
-fn rest(input: Stdin, kept: Reading) -> Reading
-    ensures { (result.count ≡ 0) ⊎ (LONGEST_INPUT ≤ kept.count) }
+fn rest(input: Stdin, kept: usize) -> Result<usize, ReadFailed>
+    ensures { IfOk result (λ beyond. (beyond ≡ 0) ⊎ (LONGEST_INPUT ≤ kept)) }
 {
-    if kept.count < LONGEST_INPUT {
-        return Reading {
-            count: 0,
-            failed: kept.failed,
-        };
+    if kept < LONGEST_INPUT {
+        return Ok(0);
     }
     beyond(input)
 }
@@ -94,22 +44,49 @@ fn answered(input: &[u8], beyond: usize, output: &mut [u8]) -> usize
     requires after { (beyond ≡ 0) ⊎ (LONGEST_INPUT ≤ length input.now) }
     ensures { (0 < result) × (result ≤ length output.new) }
 {
-    let answer = engine::station(input, beyond, output);
-    answer.count
+    engine::station(input, beyond, output).unwrap_or(0)
+}
+
+// What cannot be done.
+#[derive(Clone, Copy, Debug)]
+enum Failure {
+    Reading,
+    Writing,
+}
+
+impl Failure {
+    fn line(self) -> &'static [u8] {
+        match self {
+            Failure::Reading => b"station: the input could not be read\n",
+            Failure::Writing => b"station: the output could not be written\n",
+        }
+    }
+}
+
+impl From<ReadFailed> for Failure {
+    fn from(_failed: ReadFailed) -> Failure {
+        Failure::Reading
+    }
+}
+
+impl From<WriteFailed> for Failure {
+    fn from(_failed: WriteFailed) -> Failure {
+        Failure::Writing
+    }
+}
+
+fn answer(rt: &HostRuntime) -> Result<(), Failure> {
+    let mut input = [0u8; LONGEST_INPUT];
+    let kept = streams::read_full(rt.stdin(), &mut input)?;
+    let beyond = rest(rt.stdin(), kept)?;
+    let mut output = [0u8; LONGEST_OUTPUT];
+    let count = answered(&input[..kept], beyond, &mut output);
+    streams::write_all(rt.stdout(), &output[..count])?;
+    Ok(())
 }
 
 fn main(rt: HostRuntime) {
-    let mut input = [0u8; LONGEST_INPUT];
-    let first = fill(rt.stdin(), &mut input);
-    let more = rest(rt.stdin(), first);
-    if more.failed {
-        streams::write_all(rt.stderr(), b"station: the input could not be read\n");
-        return;
-    }
-    let mut output = [0u8; LONGEST_OUTPUT];
-    let kept = first.count;
-    let n = answered(&input[..kept], more.count, &mut output);
-    if !streams::write_all(rt.stdout(), &output[..n]) {
-        streams::write_all(rt.stderr(), b"station: the output could not be written\n");
+    if let Err(failure) = answer(&rt) {
+        let _ = streams::write_all(rt.stderr(), failure.line());
     }
 }

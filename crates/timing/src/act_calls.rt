@@ -1,91 +1,58 @@
 // Events and plain ticks. A call that moves on does so from its own answer, with event 0 set back.
-use crate::{fold, start};
+use crate::fold::{self, Fold};
+use crate::turns;
+use rules::{Marking, Refusal};
 
 #[unsafe(no_mangle)]
-pub extern "C" fn timing_enabled(table: &[u8], marking: &[u8], mut times: usize) -> u64 {
-    let t = start::table(table);
-    let m = start::marking(t.events, marking);
-    let mut sum = 1;
-    while times > 0 {
-        times -= 1;
-        let e = fold::below(t.events, sum);
-        let a = engine::enabled(t, start::stirred(m, sum), e);
-        sum = fold::enabled(sum, a);
-    }
-    sum
+pub extern "C" fn timing_enabled(table: &[u8], marking: &[u8], times: usize) -> u64 {
+    turns::of_both(table, marking, times, |t, m, sum| {
+        let event = fold::below(t.events, sum);
+        fold::outcome(sum, &engine::enabled(t, m, event), &false)
+    })
 }
 
 #[unsafe(no_mangle)]
-pub extern "C" fn timing_hold_up(table: &[u8], marking: &[u8], mut times: usize) -> u64 {
-    let t = start::table(table);
-    let m = start::marking(t.events, marking);
-    let mut sum = 1;
-    while times > 0 {
-        times -= 1;
-        let e = fold::below(t.events, sum);
-        let a = engine::hold_up(t, start::stirred(m, sum), e);
-        sum = fold::hold_up(sum, a);
-    }
-    sum
+pub extern "C" fn timing_hold_up(table: &[u8], marking: &[u8], times: usize) -> u64 {
+    turns::of_both(table, marking, times, |t, m, sum| {
+        engine::hold_up(t, m, fold::below(t.events, sum)).fold(sum)
+    })
 }
 
 #[unsafe(no_mangle)]
-pub extern "C" fn timing_margin(table: &[u8], marking: &[u8], mut times: usize) -> u64 {
-    let t = start::table(table);
-    let m = start::marking(t.events, marking);
-    let mut sum = 1;
-    while times > 0 {
-        times -= 1;
-        let k = fold::below(t.count, sum);
-        let a = engine::margin(t, start::stirred(m, sum), k);
-        sum = fold::margin(sum, a);
-    }
-    sum
+pub extern "C" fn timing_margin(table: &[u8], marking: &[u8], times: usize) -> u64 {
+    turns::of_both(table, marking, times, |t, m, sum| {
+        engine::margin(t, m, fold::below(t.count, sum)).fold(sum)
+    })
 }
 
 #[unsafe(no_mangle)]
-pub extern "C" fn timing_due(table: &[u8], marking: &[u8], mut times: usize) -> u64 {
-    let t = start::table(table);
-    let m = start::marking(t.events, marking);
-    let mut sum = 1;
-    while times > 0 {
-        times -= 1;
-        sum = fold::set(sum, engine::due(t, start::stirred(m, sum)));
+pub extern "C" fn timing_due(table: &[u8], marking: &[u8], times: usize) -> u64 {
+    turns::of_both(table, marking, times, |t, m, sum| {
+        fold::outcome(sum, &engine::due(t, m), &0u64)
+    })
+}
+
+// On from the answer, where there is one.
+fn moved(m: &mut Marking, answer: Result<Marking, Refusal>, sum: u64) -> u64 {
+    let next = fold::outcome(sum, &answer, m);
+    if let Ok(after) = answer {
+        *m = after;
     }
-    sum
+    next
 }
 
 #[unsafe(no_mangle)]
-pub extern "C" fn timing_happen(
-    table: &[u8],
-    marking: &[u8],
-    last: usize,
-    mut times: usize,
-) -> u64 {
-    let t = start::table(table);
-    let mut m = start::marking(t.events, marking);
-    let first = start::first(m);
-    let mut sum = 1;
-    while times > 0 {
-        times -= 1;
-        let a = engine::happen(t, start::set_back(m, first, sum), last);
-        sum = fold::marking(sum, a);
-        m = a.marking;
-    }
-    sum
+pub extern "C" fn timing_happen(table: &[u8], marking: &[u8], last: usize, times: usize) -> u64 {
+    turns::of_both(table, marking, times, |t, m, sum| {
+        let answer = engine::happen(t, m, last);
+        moved(m, answer, sum)
+    })
 }
 
 #[unsafe(no_mangle)]
-pub extern "C" fn timing_plain_tick(table: &[u8], marking: &[u8], mut times: usize) -> u64 {
-    let t = start::table(table);
-    let mut m = start::marking(t.events, marking);
-    let first = start::first(m);
-    let mut sum = 1;
-    while times > 0 {
-        times -= 1;
-        let a = engine::plain_tick(t, start::set_back(m, first, sum));
-        sum = fold::marking(sum, a);
-        m = a.marking;
-    }
-    sum
+pub extern "C" fn timing_plain_tick(table: &[u8], marking: &[u8], times: usize) -> u64 {
+    turns::of_both(table, marking, times, |t, m, sum| {
+        let answer = engine::plain_tick(t, m);
+        moved(m, answer, sum)
+    })
 }

@@ -1,61 +1,42 @@
 // The closure, the check, the guarded tick, and how many of these are quiet.
-use crate::{fold, start};
+use crate::fold::{self, Fold};
+use crate::turns;
+use rules::Closure;
 
 #[unsafe(no_mangle)]
-pub extern "C" fn timing_closure(table: &[u8], marking: &[u8], mut times: usize) -> u64 {
-    let t = start::table(table);
-    let m = start::marking(t.events, marking);
-    let mut sum = 1;
-    while times > 0 {
-        times -= 1;
-        sum = fold::closure(sum, engine::closure(t, start::stirred(m, sum)));
-    }
-    sum
+pub extern "C" fn timing_closure(table: &[u8], marking: &[u8], times: usize) -> u64 {
+    turns::of_both(table, marking, times, |t, m, sum| {
+        let refused = Closure { set: 0, size: 0 };
+        fold::outcome(sum, &engine::closure(t, m), &refused)
+    })
 }
 
 #[unsafe(no_mangle)]
-pub extern "C" fn timing_check(table: &[u8], marking: &[u8], mut times: usize) -> u64 {
-    let t = start::table(table);
-    let m = start::marking(t.events, marking);
-    let mut sum = 1;
-    while times > 0 {
-        times -= 1;
-        sum = fold::check(sum, engine::check(t, start::stirred(m, sum)));
-    }
-    sum
+pub extern "C" fn timing_check(table: &[u8], marking: &[u8], times: usize) -> u64 {
+    turns::of_both(
+        table,
+        marking,
+        times,
+        |t, m, sum| engine::check(t, m).fold(sum),
+    )
 }
 
 // On from the answer, or from the same marking each time, with event 0 set back.
 #[unsafe(no_mangle)]
-pub extern "C" fn timing_guarded_tick(
-    table: &[u8],
-    marking: &[u8],
-    on: bool,
-    mut times: usize,
-) -> u64 {
-    let t = start::table(table);
-    let mut m = start::marking(t.events, marking);
-    let first = start::first(m);
-    let mut sum = 1;
-    while times > 0 {
-        times -= 1;
-        let a = engine::guarded_tick(t, start::set_back(m, first, sum));
-        sum = fold::guarded(sum, a);
-        if on {
-            m = a.marking;
+pub extern "C" fn timing_guarded_tick(table: &[u8], marking: &[u8], on: bool, times: usize) -> u64 {
+    turns::of_both(table, marking, times, |t, m, sum| {
+        let answer = engine::guarded_tick(t, m);
+        let next = fold::outcome(sum, &answer, &(0usize, &*m));
+        if on && let Ok(guarded) = answer {
+            *m = guarded.marking;
         }
-    }
-    sum
+        next
+    })
 }
 
 #[unsafe(no_mangle)]
-pub extern "C" fn timing_quiet(table: &[u8], marking: &[u8], mut times: usize) -> u64 {
-    let t = start::table(table);
-    let m = start::marking(t.events, marking);
-    let mut sum = 1;
-    while times > 0 {
-        times -= 1;
-        sum = fold::ticks(sum, sleep::quiet(t, start::stirred(m, sum)));
-    }
-    sum
+pub extern "C" fn timing_quiet(table: &[u8], marking: &[u8], times: usize) -> u64 {
+    turns::of_both(table, marking, times, |t, m, sum| {
+        fold::outcome(sum, &sleep::quiet(t, m), &0usize)
+    })
 }

@@ -1,8 +1,7 @@
-// What keeps a loop of calls from being worked out beforehand: each call is handed something that the answers before it decide, and of each
-// answer a part that they decide is taken into the sum.
+// What is taken into the sum of each answer.
 use rules::{
-    CheckAnswer, ClosureAnswer, EnabledAnswer, GuardedAnswer, HoldUpAnswer, MarginAnswer, Marking,
-    MarkingAnswer, Record, Relation, Rest, SetAnswer, SleptAnswer, TableAnswer, TicksAnswer,
+    CheckError, Closure, Guarded, HoldUp, Margin, Marking, Record, Refusal, Rejection, Relation,
+    Slept, Table,
 };
 
 // The sum with one number more.
@@ -12,116 +11,180 @@ pub fn taken(sum: u64, x: u64) -> u64 {
 
 // A number below n that the sum decides, 0 for none.
 pub fn below(n: usize, sum: u64) -> usize {
-    if n < 1 {
-        return 0;
+    (sum % 65_536) as usize % n.max(1)
+}
+
+// What a call answers: the sum with a part of it taken in.
+pub trait Fold {
+    fn fold(&self, sum: u64) -> u64;
+}
+
+impl Fold for () {
+    fn fold(&self, sum: u64) -> u64 {
+        sum
     }
-    (sum % 65_536) as usize % n
 }
 
-pub fn number(sum: u64, n: u8) -> u64 {
-    taken(sum, n as u64)
+impl Fold for bool {
+    fn fold(&self, sum: u64) -> u64 {
+        taken(sum, *self as u64)
+    }
 }
 
-pub fn enabled(sum: u64, a: EnabledAnswer) -> u64 {
-    taken(taken(sum, a.number as u64), a.enabled as u64)
+impl Fold for u8 {
+    fn fold(&self, sum: u64) -> u64 {
+        taken(sum, *self as u64)
+    }
 }
 
-pub fn set(sum: u64, a: SetAnswer) -> u64 {
-    taken(taken(sum, a.number as u64), a.set)
+impl Fold for u64 {
+    fn fold(&self, sum: u64) -> u64 {
+        taken(sum, *self)
+    }
 }
 
-pub fn closure(sum: u64, a: ClosureAnswer) -> u64 {
-    taken(taken(taken(sum, a.number as u64), a.set), a.size as u64)
+impl Fold for usize {
+    fn fold(&self, sum: u64) -> u64 {
+        taken(sum, *self as u64)
+    }
+}
+
+impl Fold for Closure {
+    fn fold(&self, sum: u64) -> u64 {
+        taken(taken(sum, self.set), self.size as u64)
+    }
+}
+
+impl Fold for Relation {
+    fn fold(&self, sum: u64) -> u64 {
+        let ends = taken(self.left as u64, self.right as u64);
+        taken(sum, taken(taken(self.kind as u64, self.time as u64), ends))
+    }
+}
+
+impl Fold for Table {
+    fn fold(&self, sum: u64) -> u64 {
+        self.relations[1].fold(taken(sum, self.controllable))
+    }
 }
 
 // The count stands above the bits of a sum that decide what a call is handed, so the calls are those of a record without one.
-fn record_word(r: Record) -> u64 {
-    let times = taken(r.age as u64, r.deadline as u64);
-    let past = taken(r.happened as u64, r.included as u64);
-    let duty = taken(r.pending as u64, r.bounded as u64);
-    let rest = taken(times, taken(past, duty));
-    rest % 4_294_967_296 + r.count as u64 % 65_536 * 65_536
-}
-
-// What a record shows of a marking.
-fn marking_word(m: Marking) -> u64 {
-    let r = m.records[1];
-    record_word(r)
-}
-
-pub fn marking(sum: u64, a: MarkingAnswer) -> u64 {
-    let m = a.marking;
-    taken(taken(sum, a.number as u64), marking_word(m))
-}
-
-pub fn guarded(sum: u64, a: GuardedAnswer) -> u64 {
-    let m = a.marking;
-    taken(
-        taken(taken(sum, a.number as u64), a.count as u64),
-        marking_word(m),
-    )
-}
-
-pub fn slept(sum: u64, a: SleptAnswer) -> u64 {
-    let m = a.marking;
-    taken(
-        taken(taken(sum, a.number as u64), a.count as u64),
-        marking_word(m),
-    )
-}
-
-pub fn ticks(sum: u64, a: TicksAnswer) -> u64 {
-    taken(taken(sum, a.number as u64), a.ticks as u64)
-}
-
-fn relation_word(k: Relation) -> u64 {
-    let ends = taken(k.left as u64, k.right as u64);
-    taken(taken(k.kind as u64, k.time as u64), ends)
-}
-
-pub fn table(sum: u64, a: TableAnswer) -> u64 {
-    let t = a.table;
-    let k = t.relations[1];
-    taken(
-        taken(taken(sum, a.number as u64), t.controllable),
-        relation_word(k),
-    )
-}
-
-fn ignored_word(rest: Rest) -> u64 {
-    match rest {
-        Rest::Never => 17,
-        Rest::By(ticks) => if ticks < 0 { 21 } else { 22 },
+impl Fold for Record {
+    fn fold(&self, sum: u64) -> u64 {
+        let times = taken(self.age as u64, self.deadline as u64);
+        let past = taken(self.happened as u64, self.included as u64);
+        let duty = taken(self.pending as u64, self.bounded as u64);
+        let rest = taken(times, taken(past, duty));
+        taken(
+            sum,
+            rest % 4_294_967_296 + self.count as u64 % 65_536 * 65_536,
+        )
     }
 }
 
-pub fn margin(sum: u64, a: MarginAnswer) -> u64 {
-    let word = match a {
-        MarginAnswer::Refused(number) => number as u64,
-        MarginAnswer::NotACondition => 16,
-        MarginAnswer::Ignored(rest) => ignored_word(rest),
-        MarginAnswer::Never => 18,
-        MarginAnswer::By(ticks) => if ticks < 0 { 19 } else { 20 },
-    };
-    taken(sum, word)
+impl Fold for Marking {
+    fn fold(&self, sum: u64) -> u64 {
+        self.records[1].fold(sum)
+    }
 }
 
-pub fn hold_up(sum: u64, a: HoldUpAnswer) -> u64 {
-    let word = match a {
-        HoldUpAnswer::Refused(number) => number as u64,
-        HoldUpAnswer::Enabled => 16,
-        HoldUpAnswer::EnabledUnless(relation) => taken(19, relation as u64),
-        HoldUpAnswer::Excluded => 17,
-        HoldUpAnswer::Blocked(relation) => taken(18, relation as u64),
-    };
-    taken(sum, word)
+// How many events are caused, and the marking.
+impl Fold for (usize, &Marking) {
+    fn fold(&self, sum: u64) -> u64 {
+        self.1.fold(taken(sum, self.0 as u64))
+    }
 }
 
-pub fn check(sum: u64, a: CheckAnswer) -> u64 {
-    let word = match a {
-        CheckAnswer::Refused(number) => number as u64,
-        CheckAnswer::Accepts => 16,
-        CheckAnswer::Rejects(reason, place) => taken(17 + reason as u64, place as u64),
-    };
-    taken(sum, word)
+impl Fold for Guarded {
+    fn fold(&self, sum: u64) -> u64 {
+        (self.count, &self.marking).fold(sum)
+    }
+}
+
+impl Fold for Slept {
+    fn fold(&self, sum: u64) -> u64 {
+        (self.count, &self.marking).fold(sum)
+    }
+}
+
+// A refusal has a number.
+pub trait Refused {
+    fn number(&self) -> u8;
+}
+
+impl Refused for Refusal {
+    fn number(&self) -> u8 {
+        u8::from(*self)
+    }
+}
+
+impl Refused for CheckError {
+    fn number(&self) -> u8 {
+        match *self {
+            CheckError::Refused(refusal) => u8::from(refusal),
+            CheckError::Rejected(_) => u8::from(Refusal::Rejected),
+        }
+    }
+}
+
+// The number, and what is answered; in a refusal what stands for it.
+pub fn outcome<T, R, E>(sum: u64, answer: &Result<T, E>, refused: &R) -> u64
+where
+    T: Fold,
+    R: Fold,
+    E: Refused,
+{
+    match answer {
+        Ok(told) => told.fold(taken(sum, 0)),
+        Err(error) => refused.fold(taken(sum, error.number() as u64)),
+    }
+}
+
+// Here the number stands for what is answered.
+impl Fold for Result<Margin, Refusal> {
+    fn fold(&self, sum: u64) -> u64 {
+        let word = match *self {
+            Err(refusal) => u8::from(refusal) as u64,
+            Ok(Margin::NotACondition) => 16,
+            Ok(Margin::Ignored(None)) => 17,
+            Ok(Margin::Counts(None)) => 18,
+            Ok(Margin::Counts(Some(ticks))) if ticks < 0 => 19,
+            Ok(Margin::Counts(Some(_))) => 20,
+            Ok(Margin::Ignored(Some(ticks))) if ticks < 0 => 21,
+            Ok(Margin::Ignored(Some(_))) => 22,
+        };
+        taken(sum, word)
+    }
+}
+
+impl Fold for Result<HoldUp, Refusal> {
+    fn fold(&self, sum: u64) -> u64 {
+        let word = match *self {
+            Err(refusal) => u8::from(refusal) as u64,
+            Ok(HoldUp::Enabled) => 16,
+            Ok(HoldUp::Excluded) => 17,
+            Ok(HoldUp::Blocked(relation)) => taken(18, relation as u64),
+            Ok(HoldUp::EnabledUnless(relation)) => taken(19, relation as u64),
+        };
+        taken(sum, word)
+    }
+}
+
+impl Fold for Result<(), CheckError> {
+    fn fold(&self, sum: u64) -> u64 {
+        let word = match *self {
+            Ok(()) => 16,
+            Err(CheckError::Refused(refusal)) => u8::from(refusal) as u64,
+            Err(CheckError::Rejected(Rejection { reason, place })) => {
+                taken(17 + u8::from(reason) as u64, place as u64)
+            }
+        };
+        taken(sum, word)
+    }
+}
+
+// The last place that is written; where none is, the first.
+pub fn last_place<T: Copy + Into<u64>>(list: &[T], count: usize) -> u64 {
+    let last = list.get(count.saturating_sub(1));
+    last.map_or(0, |place| (*place).into())
 }

@@ -9,4 +9,4 @@ mod fold;
 mod images;
 mod lists;
 mod sets;
-mod start;
+mod turns;

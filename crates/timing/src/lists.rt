@@ -1,5 +1,5 @@
 // The calls that are lent lists: remedies, the chain, sleep, the runner over bytes, the station.
-use crate::{fold, start};
+use crate::{fold, turns};
 
 #[unsafe(no_mangle)]
 pub extern "C" fn timing_remedies<'a>(
@@ -7,24 +7,13 @@ pub extern "C" fn timing_remedies<'a>(
     marking: &[u8],
     preferred: &'a [u8],
     fallback: &'a [u8],
-    mut times: usize,
+    times: usize,
 ) -> u64 {
-    let t = start::table(table);
-    let m = start::marking(t.events, marking);
-    let mut sum = 1;
-    while times > 0 {
-        times -= 1;
-        let mut number = 0u8;
-        let stretch = engine::remedies(t, start::stirred(m, sum), preferred, fallback, &mut number);
-        sum = fold::taken(fold::taken(sum, number as u64), stretch.len() as u64);
-    }
-    sum
-}
-
-// The last place that is written, or the first where none is.
-fn last_place(list: &[u16], count: usize) -> u64 {
-    let at = if count < 1 { 0 } else { count - 1 };
-    if at < list.len() { list[at] as u64 } else { 0 }
+    turns::of_both(table, marking, times, |t, m, sum| {
+        let remedy = engine::remedies(t, m, preferred, fallback);
+        let length = remedy.map(|remedy| remedy.start.len());
+        fold::outcome(sum, &length, &0usize)
+    })
 }
 
 #[unsafe(no_mangle)]
@@ -33,24 +22,13 @@ pub extern "C" fn timing_chain(
     marking: &[u8],
     event: usize,
     list: &mut [u16],
-    mut times: usize,
+    times: usize,
 ) -> u64 {
-    let t = start::table(table);
-    let m = start::marking(t.events, marking);
-    let mut sum = 1;
-    while times > 0 {
-        times -= 1;
-        let a = chain::chain(t, start::stirred(m, sum), event, list);
-        sum = fold::taken(fold::number(sum, a.number), a.count as u64);
-        sum = fold::taken(sum, last_place(list, a.count));
-    }
-    sum
-}
-
-// The same of a list with places for a tick and an event.
-fn last_caused(list: &[u32], count: usize) -> u64 {
-    let at = if count < 1 { 0 } else { count - 1 };
-    if at < list.len() { list[at] as u64 } else { 0 }
+    turns::of_both(table, marking, times, |t, m, sum| {
+        let count = chain::chain(t, m, event, list);
+        let last = fold::last_place(list, count.unwrap_or(0));
+        fold::taken(fold::outcome(sum, &count, &0usize), last)
+    })
 }
 
 #[unsafe(no_mangle)]
@@ -59,17 +37,14 @@ pub extern "C" fn timing_sleep(
     marking: &[u8],
     ticks: usize,
     list: &mut [u32],
-    mut times: usize,
+    times: usize,
 ) -> u64 {
-    let t = start::table(table);
-    let m = start::marking(t.events, marking);
-    let mut sum = 1;
-    while times > 0 {
-        times -= 1;
-        let a = sleep::sleep(t, start::stirred(m, sum), ticks, list);
-        sum = fold::taken(fold::slept(sum, a), last_caused(list, a.count));
-    }
-    sum
+    turns::of_both(table, marking, times, |t, m, sum| {
+        let slept = sleep::sleep(t, m, ticks, list);
+        let count = slept.as_ref().map_or(0, |slept| slept.count);
+        let last = fold::last_place(list, count);
+        fold::taken(fold::outcome(sum, &slept, &(0usize, &*m)), last)
+    })
 }
 
 #[unsafe(no_mangle)]
@@ -78,24 +53,16 @@ pub extern "C" fn timing_run_bytes(
     marking: &[u8],
     steps: &[u8],
     answers: &mut [u8],
-    mut times: usize,
+    times: usize,
 ) -> u64 {
-    let t = start::table(table);
-    let m = start::marking(t.events, marking);
-    let mut sum = 1;
-    while times > 0 {
-        times -= 1;
-        sum = fold::marking(
-            sum,
-            engine::run_bytes(t, start::stirred(m, sum), steps, answers),
-        );
-    }
-    sum
+    turns::of_both(table, marking, times, |t, m, sum| {
+        let end = engine::run_bytes(t, m, steps, answers);
+        fold::outcome(sum, &end, &*m)
+    })
 }
 
 // Once: its costs are those of a run, and only its stack is measured.
 #[unsafe(no_mangle)]
 pub extern "C" fn timing_station(input: &[u8], output: &mut [u8]) -> usize {
-    let answer = engine::station(input, 0, output);
-    answer.count
+    engine::station(input, 0, output).unwrap_or(0)
 }

@@ -1,22 +1,35 @@
-// The public calls, by number: a call takes its arguments from the payload and puts its whole answer to `out`; the result is the answer's
-// length. A later call that answers a few bytes is a line of `engine_calls`; another is a function, and a line here. 11 and 12, request and
-// report, are retired: no later call gets them.
-use crate::{engine_calls, list_calls};
-use wire::{answer, images};
+// A call takes its arguments from the payload and puts its whole answer. A later call is a function, and a line here.
+use crate::{list_calls, set_calls, state_calls};
+use wire::answer::Answer;
+use wire::call::Call;
+use wire::images;
 
-pub fn answer(call: u8, s: &[u8], out: &mut [u8]) -> usize {
+pub fn answer(call: Call, payload: &[u8], answer: &mut Answer) {
     match call {
-        0..=6 => images::answer(call, s, out),
-        13 => answer::put_marking_answer(out, engine_calls::ticked(s)),
-        16 => answer::put_closure_answer(out, engine_calls::closed(s)),
-        18 => answer::put_guarded_answer(out, engine_calls::guarded(s)),
-        19 => list_calls::remedies(s, out),
-        20 => list_calls::run(false, s, out),
-        21 => list_calls::run(true, s, out),
-        22..=23 => images::answer(call, s, out),
-        24 => list_calls::chain(s, out),
-        25 => answer::put_marking_answer(out, engine_calls::happened(s)),
-        26 => list_calls::sleep(s, out),
-        _ => answer::put_told(out, engine_calls::told(call, s)),
+        Call::ReadTable => images::read_table(payload, answer),
+        Call::ReadMarking => images::read_marking(payload, answer),
+        Call::WriteMarking => images::write_marking(payload, answer),
+        Call::Fresh => images::fresh(payload, answer),
+        Call::JudgeTable => images::judge_table(payload, answer),
+        Call::JudgeMarking => images::judge_marking(payload, answer),
+        Call::Size => set_calls::size(payload, answer),
+        Call::Lowest => set_calls::lowest(payload, answer),
+        Call::Enabled => state_calls::enabled(payload, answer),
+        Call::Due => state_calls::due(payload, answer),
+        Call::PlainTick => state_calls::plain_tick(payload, answer),
+        Call::Margin => state_calls::margin(payload, answer),
+        Call::HoldUp => state_calls::hold_up(payload, answer),
+        Call::Closure => state_calls::closure(payload, answer),
+        Call::Check => state_calls::check(payload, answer),
+        Call::GuardedTick => state_calls::guarded_tick(payload, answer),
+        Call::Remedies => list_calls::remedies(payload, answer),
+        Call::Run => list_calls::run(payload, answer),
+        Call::RunBytes => list_calls::run_bytes(payload, answer),
+        Call::WriteTable => images::write_table(payload, answer),
+        Call::CarryMarking => images::carry_marking(payload, answer),
+        Call::Chain => list_calls::chain(payload, answer),
+        Call::Happen => state_calls::happen(payload, answer),
+        Call::Sleep => list_calls::sleep(payload, answer),
+        Call::Quiet => state_calls::quiet(payload, answer),
     }
 }

@@ -4,31 +4,32 @@
 #![tactic(auto)]
 
 mod calls;
-mod engine_calls;
 mod list_calls;
+mod set_calls;
+mod state;
+mod state_calls;
 
 use std::io::{Stdin, Stdout};
-use wire::{frame, given};
+use wire::answer::Answer;
+use wire::call::Call;
+use wire::frame;
 
-// One call; false at the end of the input.
-fn turn(input: Stdin, output: Stdout) -> bool {
-    let call = frame::next(input);
-    if !call.there {
-        return false;
-    }
+// One call; None at the end of the input. A number that no call has gets the empty answer.
+fn turn(input: Stdin, output: Stdout) -> Option<()> {
     let mut room = [0u8; 20000];
-    if !frame::payload(input, call.length, &mut room) {
-        return false;
+    let frame = frame::next(input, &mut room)?;
+    let mut answer = Answer::new();
+    if let Ok(call) = Call::try_from(frame.call) {
+        calls::answer(call, frame.payload, &mut answer);
     }
-    let mut out = [0u8; 20000];
-    let n = calls::answer(call.number, given::before(&room, call.length), &mut out);
-    frame::send(output, n, &mut out)
+    answer.send(output).ok()
 }
 
-// A proved loop has to end, and nothing says that the input does: the turns count down from a number that no run uses up.
+// A proved loop has to end, and nothing says that the input does: the turns are more than any run has.
 fn main(rt: HostRuntime) {
-    let mut turns = u64::MAX;
-    while turns > 0 && turn(rt.stdin(), rt.stdout()) {
-        turns -= 1;
+    for _ in 0..u64::MAX {
+        if turn(rt.stdin(), rt.stdout()).is_none() {
+            break;
+        }
     }
 }

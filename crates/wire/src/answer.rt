@@ -1,111 +1,157 @@
-// What a call answers. An answer stands in `out` from START on; what puts it there tells its length.
-ghost use Rattle.std.specs.Prelude.{◌≤◌, length};
+// What a call answers: put byte by byte into a frame, which begins with the answer's length.
+use rules::{CheckError, Refusal};
+use std::io::Stdout;
+use streams::WriteFailed;
 
-use crate::given::{MARKING, TABLE};
-use crate::told::Told;
-use crate::{bytes, told, values};
-use rules::{ClosureAnswer, GuardedAnswer, MarkingAnswer, SleptAnswer, TableAnswer};
+// An answer is at most so long.
+const LONGEST: usize = 19998;
 
-// The answer's length goes before it.
+// The length has two bytes.
 const START: usize = 2;
 
-pub fn put_told(out: &mut [u8], a: Told) -> usize {
-    let first = a.first_bytes as usize;
-    let second = a.second_bytes as usize;
-    bytes::put_number(out, START, first, a.first);
-    bytes::put_number(out, START + first, second, a.second);
-    first + second
+const END: usize = START + LONGEST;
+
+// An answer that is longer than it may be is counted on, and not sent.
+#[derive(Drop)]
+pub struct Answer {
+    frame: [u8; END],
+    end: usize,
 }
 
-// Behind so many bytes of the answer.
-pub fn put_bytes(out: &mut [u8], behind: u16, s: &[u8]) {
-    let mut i = 0;
-    while i < s.len() {
-        bytes::put_byte(out, START + behind as usize + i, s[i]);
-        i += 1;
+impl Answer {
+    pub fn new() -> Answer {
+        Answer {
+            frame: [0; END],
+            end: START,
+        }
+    }
+
+    pub fn bytes(&mut self, bytes: &[u8]) {
+        let start = self.end;
+        self.end = start.saturating_add(bytes.len());
+        if self.end <= END {
+            self.frame[start..self.end].copy_from_slice(bytes);
+        }
+    }
+
+    pub fn each<T: Told>(&mut self, values: &[T]) {
+        for value in values {
+            value.put(self);
+        }
+    }
+
+    // A number, and what the call tells; in a refusal what is told in its place.
+    pub fn result<T: Told>(&mut self, outcome: Result<T, Refusal>, refused: T) {
+        match outcome {
+            Ok(told) => {
+                0u8.put(self);
+                told.put(self);
+            }
+            Err(refusal) => {
+                u8::from(refusal).put(self);
+                refused.put(self);
+            }
+        }
+    }
+
+    // The same of a call that makes the check: behind the number come its reason and its place.
+    pub fn checked<T: Told>(&mut self, outcome: Result<T, CheckError>, refused: T) {
+        match outcome {
+            Ok(told) => {
+                self.head(0, 0, 0);
+                told.put(self);
+            }
+            Err(CheckError::Refused(refusal)) => {
+                self.head(u8::from(refusal), 0, 0);
+                refused.put(self);
+            }
+            Err(CheckError::Rejected(rejection)) => {
+                self.head(
+                    u8::from(Refusal::Rejected),
+                    u8::from(rejection.reason),
+                    rejection.place,
+                );
+                refused.put(self);
+            }
+        }
+    }
+
+    fn head(&mut self, number: u8, reason: u8, place: usize) {
+        number.put(self);
+        reason.put(self);
+        place.put(self);
+    }
+
+    // Nothing is written of an answer that is too long.
+    pub fn send(&mut self, output: Stdout) -> Result<(), WriteFailed> {
+        let Some(length) = self.end.checked_sub(START) else {
+            return Err(WriteFailed);
+        };
+        if LONGEST < length {
+            return Err(WriteFailed);
+        }
+        self.frame[..START].copy_from_slice(&(length as u16).to_le_bytes());
+        streams::write_all(output, &self.frame[..self.end])
     }
 }
 
-// Numbers of two bytes, behind so many bytes of the answer.
-pub fn put_places(out: &mut [u8], behind: u16, places: &[u16]) {
-    let mut at = START + behind as usize;
-    let mut i = 0;
-    while i < places.len() {
-        let place = places[i];
-        bytes::put_byte(out, at, (place % 256) as u8);
-        bytes::put_byte(out, at + 1, (place / 256) as u8);
-        at += 2;
-        i += 1;
+// A value that a call tells.
+pub trait Told: Drop {
+    fn put(&self, to: &mut Answer);
+}
+
+// Of a call that has a number alone.
+impl Told for () {
+    fn put(&self, _to: &mut Answer) {}
+}
+
+impl Told for u8 {
+    fn put(&self, to: &mut Answer) {
+        to.bytes(&self.to_le_bytes());
     }
 }
 
-fn wide(word: u32) -> u64 {
-    word as u64
-}
-
-// Numbers of four bytes, behind so many bytes of the answer.
-pub fn put_words(out: &mut [u8], behind: u16, words: &[u32])
-    requires words_len_bound { length words.now ≤ 10000 }
-    requires behind_bound { behind ≤ 10000 }
-{
-    let mut at = START + behind as usize;
-    let mut i = 0;
-    while i < words.len() {
-        bytes::put_number(out, at, 4, wide(words[i]));
-        at += 4;
-        i += 1;
+impl Told for u16 {
+    fn put(&self, to: &mut Answer) {
+        to.bytes(&self.to_le_bytes());
     }
 }
 
-// A buffer's bytes, behind so many of the answer: a call is lent this part of `out` in the buffer's stead. It is empty if `out` is too short.
-pub fn lent<'a>(out: &'a mut [u8], behind: u16, buffer: &[u8]) -> &'a mut [u8] {
-    let start = START + behind as usize;
-    let end = start + buffer.len();
-    put_bytes(out, behind, buffer);
-    if out.len() < end {
-        return &mut out[0..0];
+impl Told for u32 {
+    fn put(&self, to: &mut Answer) {
+        to.bytes(&self.to_le_bytes());
     }
-    &mut out[start..end]
 }
 
-pub fn put_table_answer(out: &mut [u8], a: TableAnswer) -> usize {
-    let t = a.table;
-    bytes::put_byte(out, START, a.number);
-    values::put_table(out, START + 1, t);
-    1 + TABLE as usize
+impl Told for u64 {
+    fn put(&self, to: &mut Answer) {
+        to.bytes(&self.to_le_bytes());
+    }
 }
 
-pub fn put_marking_answer(out: &mut [u8], a: MarkingAnswer) -> usize {
-    let m = a.marking;
-    bytes::put_byte(out, START, a.number);
-    values::put_marking(out, START + 1, m);
-    1 + MARKING as usize
+impl Told for usize {
+    fn put(&self, to: &mut Answer) {
+        to.bytes(&self.to_le_bytes());
+    }
 }
 
-// Number, set, 8 bytes, and size, 4.
-pub fn put_closure_answer(out: &mut [u8], a: ClosureAnswer) -> usize {
-    bytes::put_byte(out, START, a.number);
-    bytes::put_number(out, START + 1, 8, a.set);
-    bytes::put_number(out, START + 9, 4, a.size as u64);
-    13
+impl Told for bool {
+    fn put(&self, to: &mut Answer) {
+        u8::from(*self).put(to);
+    }
 }
 
-// Number, reason and place, 10 bytes; the caused events, 64; their count, 8; the marking.
-pub fn put_guarded_answer(out: &mut [u8], a: GuardedAnswer) -> usize {
-    let caused = a.caused;
-    let m = a.marking;
-    put_told(out, told::cased(a.number, a.reason, a.place as u64, 8));
-    put_bytes(out, 10, &caused);
-    bytes::put_number(out, START + 74, 8, a.count as u64);
-    values::put_marking(out, START + 82, m);
-    82 + MARKING as usize
+impl<A: Told, B: Told> Told for (A, B) {
+    fn put(&self, to: &mut Answer) {
+        self.0.put(to);
+        self.1.put(to);
+    }
 }
 
-// Number, reason and place, 10 bytes; how many events were caused, 8; the marking.
-pub fn put_slept_answer(out: &mut [u8], a: SleptAnswer) -> usize {
-    let m = a.marking;
-    put_told(out, told::cased(a.number, a.reason, a.place as u64, 8));
-    bytes::put_number(out, START + 10, 8, a.count as u64);
-    values::put_marking(out, START + 18, m);
-    18 + MARKING as usize
+// A list has its length before it.
+impl Told for &[u8] {
+    fn put(&self, to: &mut Answer) {
+        self.len().put(to);
+        to.bytes(self);
+    }
 }

@@ -1,42 +1,26 @@
-// Frames on standard input and output.
-use crate::bytes;
-use std::io::{Stdin, Stdout};
+// Frames on standard input.
+use std::io::Stdin;
 
-// What a call's frame begins with; `there` is false at the end of the input.
+// A call's number, and what it is given.
 #[derive(Clone, Copy)]
-pub struct Call {
-    pub there: bool,
-    pub number: u8,
-    pub length: usize,
+pub struct Frame<'a> {
+    pub call: u8,
+    pub payload: &'a [u8],
 }
 
-pub fn next(input: Stdin) -> Call {
-    let mut s = [0u8; 3];
-    let n = streams::read_full(input, &mut s);
-    Call {
-        there: n == 3,
-        number: bytes::byte_at(&s, 0),
-        length: bytes::length_at(&s, 1),
-    }
+// None if the input ends before the space is full, or a read fails.
+fn filled(input: Stdin, space: &mut [u8]) -> Option<()> {
+    let count = streams::read_full(input, space).ok()?;
+    (count == space.len()).then_some(())
 }
 
-// Reads a payload of n bytes to the start of `room`. False if it has no room, or the input ends before.
-pub fn payload(input: Stdin, n: usize, room: &mut [u8]) -> bool {
-    if room.len() < n {
-        return false;
-    }
-    streams::read_full(input, &mut room[0..n]) == n
-}
-
-// Writes the answer of n bytes that stands in `out` from byte 2 on, behind its length.
-pub fn send(output: Stdout, n: usize, out: &mut [u8]) -> bool {
-    bytes::put_number(out, 0, 2, n as u64);
-    if out.len() < 2 {
-        return false;
-    }
-    if out.len() - 2 < n {
-        return false;
-    }
-    let end = n + 2;
-    streams::write_all(output, &out[0..end])
+// The next frame: the call's number, the payload's length in two bytes, and the payload, which stands in `room` then. None at the end of the
+// input, or if the room is too small.
+pub fn next(input: Stdin, room: &mut [u8]) -> Option<Frame<'_>> {
+    let mut head = [0u8; 3];
+    filled(input, &mut head)?;
+    let [call, low, high] = head;
+    let payload = room.get_mut(..u16::from_le_bytes([low, high]) as usize)?;
+    filled(input, payload)?;
+    Some(Frame { call, payload })
 }

@@ -1,52 +1,84 @@
-// Calls 1 to 6, 22 and 23: the image reader's, and a fresh marking. An event count comes first where a call is given one; a marking, an image or a
-// buffer is behind it. A buffer to write to is behind what is written.
-use crate::{answer, given, told};
-use rules::Marking;
+// The image reader's calls, and a fresh marking. An event count comes first where a call is given one; a marking, an image or a buffer is
+// behind it. A buffer to write to is behind what is written.
+use crate::answer::Answer;
+use crate::list;
+use crate::payload::{Given, Payload};
+use rules::{Marking, Refusal, Relation, Table};
 
-fn events(s: &[u8]) -> usize {
-    given::number(s) as usize
+// What stands for a table in a refusal.
+const NO_TABLE: Table = Table {
+    relations: [Relation::EMPTY; Table::MOST_RELATIONS],
+    controllable: 0,
+    causable: 0,
+    events: 0,
+    count: 0,
+    firm: false,
+};
+
+pub fn read_table(payload: &[u8], answer: &mut Answer) {
+    answer.result(image::read_table(payload), NO_TABLE);
 }
 
-// The buffer is the part of `out` behind the number.
-fn write_marking(s: &[u8], out: &mut [u8]) -> usize {
-    let buffer = given::after(s, given::MARKING as usize);
-    let number = image::write_marking(given::marking(s), answer::lent(out, 1, buffer));
-    answer::put_told(out, told::number(number));
-    1 + buffer.len()
+pub fn read_marking(payload: &[u8], answer: &mut Answer) {
+    let mut from = Payload::new(payload);
+    let events = usize::read(&mut from);
+    answer.result(image::read_marking(events, from.rest()), Marking::empty());
 }
 
-// The same of a table.
-fn write_table(s: &[u8], out: &mut [u8]) -> usize {
-    let buffer = given::after(s, given::TABLE as usize);
-    let number = image::write_table(given::table(s), answer::lent(out, 1, buffer));
-    answer::put_told(out, told::number(number));
-    1 + buffer.len()
+pub fn fresh(payload: &[u8], answer: &mut Answer) {
+    let events = usize::read(&mut Payload::new(payload));
+    answer.result(Marking::fresh(events), Marking::empty());
 }
 
-// Behind the event count the old image and the buffer are two lists.
-fn carry_marking(s: &[u8], out: &mut [u8]) -> usize {
-    let lists = given::after(s, 8);
-    let buffer = given::second(lists);
-    let number = image::carry_marking(events(s), given::first(lists), answer::lent(out, 1, buffer));
-    answer::put_told(out, told::number(number));
-    1 + buffer.len()
+pub fn judge_table(payload: &[u8], answer: &mut Answer) {
+    let table = Table::read(&mut Payload::new(payload));
+    answer.result(image::judge_table(&table), ());
 }
 
-fn judge_marking(s: &[u8]) -> u8 {
-    image::judge_marking(events(s), given::marking(given::after(s, 8)))
+pub fn judge_marking(payload: &[u8], answer: &mut Answer) {
+    let mut from = Payload::new(payload);
+    let events = usize::read(&mut from);
+    let marking = Marking::read(&mut from);
+    answer.result(image::judge_marking(events, &marking), ());
 }
 
-// A number that no call has gets the empty answer.
-pub fn answer(call: u8, s: &[u8], out: &mut [u8]) -> usize {
-    match call {
-        1 => answer::put_table_answer(out, image::read_table(s)),
-        2 => answer::put_marking_answer(out, image::read_marking(events(s), given::after(s, 8))),
-        3 => write_marking(s, out),
-        4 => answer::put_marking_answer(out, Marking::fresh(events(s))),
-        5 => answer::put_told(out, told::number(image::judge_table(given::table(s)))),
-        6 => answer::put_told(out, told::number(judge_marking(s))),
-        22 => write_table(s, out),
-        23 => carry_marking(s, out),
-        _ => 0,
-    }
+// Lends a call the buffer that is left of the payload; behind its number the whole buffer is told.
+fn written<F>(buffer: Payload<'_>, answer: &mut Answer, write: F)
+where
+    F: FnOnce(&mut [u8]) -> Result<(), Refusal>,
+    requires { F.IsAlwaysCallable write }
+{
+    let mut room = [0u8; list::BUFFER];
+    let buffer = list::lent(&mut room, 1, buffer.rest());
+    let result = write(buffer);
+    answer.result(result, ());
+    answer.bytes(buffer);
+}
+
+pub fn write_table(payload: &[u8], answer: &mut Answer) {
+    let mut from = Payload::new(payload);
+    let table = Table::read(&mut from);
+    written(from, answer, |buffer| image::write_table(&table, buffer));
+}
+
+pub fn write_marking(payload: &[u8], answer: &mut Answer) {
+    let mut from = Payload::new(payload);
+    let marking = Marking::read(&mut from);
+    written(
+        from,
+        answer,
+        |buffer| image::write_marking(&marking, buffer),
+    );
+}
+
+// Behind the event count come the old image, which has its length before it, and the buffer.
+pub fn carry_marking(payload: &[u8], answer: &mut Answer) {
+    let mut from = Payload::new(payload);
+    let events = usize::read(&mut from);
+    let old = from.list();
+    written(
+        from,
+        answer,
+        |buffer| image::carry_marking(events, old, buffer),
+    );
 }

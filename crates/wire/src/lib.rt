@@ -6,9 +6,10 @@
 #![tactic(auto)]
 
 pub mod answer;
-mod bytes;
+pub mod call;
 pub mod frame;
-pub mod given;
 pub mod images;
-pub mod told;
+pub mod list;
+pub mod payload;
+mod results;
 mod values;

@@ -1,68 +1,102 @@
-// Tables and markings, put into lent bytes.
-ghost use Rattle.std.specs.Prelude.{◌+◌, ◌≤◌};
-
-use crate::bytes;
+// Tables and markings on the wire, judged or not.
+use crate::answer::{Answer, Told};
+use crate::payload::{Given, Payload};
 use rules::{Marking, Record, Relation, Table};
 
-fn relation_word(k: Relation) -> u64 {
-    let first = bytes::word(k.kind, k.left, k.right, k.bounded as u8);
-    first + k.time as u64 * 4294967296
-}
-
-fn table_word(t: Table, i: usize) -> u64 {
-    if i < 256 {
-        let k = t.relations[i];
-        return relation_word(k);
-    }
-    match i {
-        256 => t.controllable,
-        257 => t.causable,
-        258 => t.events as u64,
-        259 => t.count as u64,
-        _ => t.firm as u64,
+impl Given for Relation {
+    fn read(from: &mut Payload<'_>) -> Relation {
+        Relation {
+            kind: u8::read(from),
+            left: u8::read(from),
+            right: u8::read(from),
+            bounded: bool::read(from),
+            time: u32::read(from),
+        }
     }
 }
 
-pub fn put_table(out: &mut [u8], at: usize, t: Table)
-    requires { at + 2088 ≤ 65536 }
-{
-    let mut i = 0;
-    while i < 261 {
-        bytes::put_number(out, at + i * 8, 8, table_word(t, i));
-        i += 1;
+impl Told for Relation {
+    fn put(&self, to: &mut Answer) {
+        to.bytes(&[self.kind, self.left, self.right, u8::from(self.bounded)]);
+        self.time.put(to);
     }
 }
 
-fn times(r: Record) -> u64 {
-    r.age as u64 + r.deadline as u64 * 4294967296
+fn relations(from: &mut Payload<'_>) -> [Relation; Table::MOST_RELATIONS] {
+    let mut relations = [Relation::EMPTY; Table::MOST_RELATIONS];
+    from.each(&mut relations);
+    relations
 }
 
-fn flags_and_count(r: Record) -> u64 {
-    let flags = bytes::word(
-        r.happened as u8,
-        r.included as u8,
-        r.pending as u8,
-        r.bounded as u8,
-    );
-    flags + r.count as u64 * 4294967296
-}
-
-fn put_records(out: &mut [u8], at: usize, m: Marking)
-    requires { at + 1024 ≤ 65536 }
-{
-    let mut i = 0;
-    while i < 64 {
-        let r = m.records[i];
-        let start = at + i * 16;
-        bytes::put_number(out, start, 8, times(r));
-        bytes::put_number(out, start + 8, 8, flags_and_count(r));
-        i += 1;
+// A number stands for `firm`: it is true if the number is odd.
+impl Given for Table {
+    fn read(from: &mut Payload<'_>) -> Table {
+        Table {
+            relations: relations(from),
+            controllable: u64::read(from),
+            causable: u64::read(from),
+            events: usize::read(from),
+            count: usize::read(from),
+            firm: u64::read(from) % 2 == 1,
+        }
     }
 }
 
-pub fn put_marking(out: &mut [u8], at: usize, m: Marking)
-    requires { at + 1032 ≤ 65536 }
-{
-    put_records(out, at, m);
-    bytes::put_number(out, at + 1024, 8, m.events as u64);
+impl Told for Table {
+    fn put(&self, to: &mut Answer) {
+        to.each(&self.relations);
+        self.controllable.put(to);
+        self.causable.put(to);
+        self.events.put(to);
+        self.count.put(to);
+        u64::from(self.firm).put(to);
+    }
+}
+
+impl Given for Record {
+    fn read(from: &mut Payload<'_>) -> Record {
+        Record {
+            age: u32::read(from),
+            deadline: u32::read(from),
+            happened: bool::read(from),
+            included: bool::read(from),
+            pending: bool::read(from),
+            bounded: bool::read(from),
+            count: u32::read(from),
+        }
+    }
+}
+
+impl Told for Record {
+    fn put(&self, to: &mut Answer) {
+        self.age.put(to);
+        self.deadline.put(to);
+        self.happened.put(to);
+        self.included.put(to);
+        self.pending.put(to);
+        self.bounded.put(to);
+        self.count.put(to);
+    }
+}
+
+fn records(from: &mut Payload<'_>) -> [Record; Table::MOST_EVENTS] {
+    let mut records = [Record::EMPTY; Table::MOST_EVENTS];
+    from.each(&mut records);
+    records
+}
+
+impl Given for Marking {
+    fn read(from: &mut Payload<'_>) -> Marking {
+        Marking {
+            records: records(from),
+            events: usize::read(from),
+        }
+    }
+}
+
+impl Told for Marking {
+    fn put(&self, to: &mut Answer) {
+        to.each(&self.records);
+        self.events.put(to);
+    }
 }

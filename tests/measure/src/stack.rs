@@ -29,7 +29,7 @@ pub struct Cycle {
 /// them one that finds its event open. What the compiler makes a function of its own again,
 /// the visit of a relation, is not in this table, and is then refused as a cycle.
 pub const CYCLES: [Cycle; 1] = [Cycle {
-    functions: &["chain::visiting::visit_event"],
+    functions: &["chain::stops::Visits::event"],
     times: 65,
     frame: 140,
 }];
@@ -353,15 +353,15 @@ mod tests {
     #[test]
     fn the_visit_of_an_event_counts_for_each_event_and_one_more() {
         for again in [
-            "   5:\tcall   0 <chain::visiting::visit_event>",
-            "   5:\tcall   a <chain::visiting::visit_event+0xa>\n\t\t\t6: R_X86_64_PLT32\t.text.chain::visiting::visit_event-0x4",
+            "   5:\tcall   0 <chain::stops::Visits::event>",
+            "   5:\tcall   a <chain::stops::Visits::event+0xa>\n\t\t\t6: R_X86_64_PLT32\t.text.chain::stops::Visits::event-0x4",
         ] {
             let text = format!(
                 "0000000000000000 <duty_chain>:
    0:\tsub    $0x10,%rsp
    5:\tcall   a <duty_chain+0xa>
-\t\t\t6: R_X86_64_PLT32\tchain::visiting::visit_event-0x4
-0000000000000000 <chain::visiting::visit_event>:
+\t\t\t6: R_X86_64_PLT32\tchain::stops::Visits::event-0x4
+0000000000000000 <chain::stops::Visits::event>:
    0:\tsub    $0x28,%rsp
 {again}
 "
@@ -369,14 +369,14 @@ mod tests {
             let program = Program::read(&text, &CYCLES).expect("plain code");
             let (bytes, way) = program.deepest("duty_chain", &[]).expect("in the table");
             assert_eq!(bytes, 8 + 0x10 + (64 + 1) * (8 + 0x28));
-            let visits = "chain::visiting::visit_event, 65 times";
+            let visits = "chain::stops::Visits::event, 65 times";
             assert_eq!(way, ["duty_chain", visits]);
             // A relation's visit between them is not in the table.
             let through = text.replace(
                 again,
-                "\t\t\t6: R_X86_64_PLT32\tchain::visiting::visit_relation-0x4
-0000000000000000 <chain::visiting::visit_relation>:
-\t\t\t6: R_X86_64_PLT32\tchain::visiting::visit_event-0x4",
+                "\t\t\t6: R_X86_64_PLT32\tchain::stops::Visits::relation-0x4
+0000000000000000 <chain::stops::Visits::relation>:
+\t\t\t6: R_X86_64_PLT32\tchain::stops::Visits::event-0x4",
             );
             let program = Program::read(&through, &CYCLES).expect("plain code");
             assert!(program.deepest("duty_chain", &[]).is_err());

@@ -43,7 +43,7 @@ module _ (rows : List ℕ) (at : ℕ) (sets : List ℕ) (missing : ℕ)
     held_has : (x : ℕ) → has held_word_lem x ≡ holds_back_at rows at sets x
     held_has x = simp (has_or, has_and, misses)
 
-    pub held_word : ((i : ℕ) → get_or rows i 0 < 2 ^ 64) → not (eqb held_word_lem 0) ≡ held_back rows at sets
+    pub held_word : ((s : ℕ) → s < 3 → get_or rows (at + s) 0 < 2 ^ 64) → not (eqb held_word_lem 0) ≡ held_back rows at sets
     unfolding held_back
     held_word fits =
         ap (λ (w : ℕ). not (eqb w 0)) (set_by_test 64 held_word_lem (holds_back_at rows at sets) (λ x h. small x (sym (held_has x) ∙ h)) (λ x b. held_has x))
@@ -54,10 +54,10 @@ module _ (rows : List ℕ) (at : ℕ) (sets : List ℕ) (missing : ℕ)
           where
             go : (b : Bool) → ltb x 64 ≡ b → x < 64
             go true e = ltb-true x 64 e
-            go false e = absurd (clash h (rw (outside 0, outside 1, outside 2)))
+            go false e = absurd (clash h (rw (outside 0 (omega arith), outside 1 (omega arith), outside 2 (omega arith))))
               where
-                outside : (s : ℕ) → has (get_or rows (at + s) 0) x ≡ false
-                outside s = has_small (get_or rows (at + s) 0) 64 x (fits (at + s)) (ltb-false x 64 e)
+                outside : (s : ℕ) → s < 3 → has (get_or rows (at + s) 0) x ≡ false
+                outside s b = has_small (get_or rows (at + s) 0) 64 x (fits s b) (ltb-false x 64 e)
 
 -- e's relations that pass a test and lead to an event that passes another: by the events, and by the relations
 module _ (t : Table) (e : ℕ) (f : Relation → Bool) (g : ℕ → Bool) where

@@ -1,6 +1,6 @@
 -- A walk over e's bounded responses: the dates that those gave that were met stand, and what the rest gives is still to come. Assumes nothing.
-use Rattle.std.specs.Prelude.{◌≡◌, refl, Bool, true, false, ◌&&◌, cond, List, ℕ, ◌<◌, ◌≤◌, ◌+◌, ◌-◌, ◌/◌, ◌%◌, min, eqb, set}
-use Rattle.std.proofs.Common.{◌∙◌, arith, get_or-set_same, eq-eqb, ne_eqb}
+use Rattle.std.specs.Prelude.{◌≡◌, refl, Bool, true, false, ◌&&◌, cond, List, ℕ, ◌<◌, ◌≤◌, ◌+◌, ◌-◌, ◌/◌, ◌%◌, min, eqb, ltb, set}
+use Rattle.std.proofs.Common.{◌∙◌, arith, get_or-set_same, eq-eqb, ne_eqb, lt-ltb}
 use Rattle.std.proofs.Math.Path.{ap, sym}
 use Rattle.std.proofs.Math.Bool.{or-true}
 use Rattle.std.proofs.Math.Decide.{ℕ_discrete}
@@ -15,6 +15,8 @@ use Rattle.rules.proofs.Laws.Tests.{clash, both, or_false}
 use Rattle.rules.proofs.Laws.EventSet.{has_with}
 use Rattle.rules.specs.Shapes.Good.{GoodTable}
 use Rattle.acts.specs.Derived.{sort_of, of_sort, last_of, Own}
+use Rattle.acts.specs.declared.links.Link.{Link}
+use Rattle.acts.specs.Links.{link_in}
 use Rattle.acts.specs.Acting.{sooner, Responded}
 use Rattle.acts.specs.Laws.Derived.{right_small}
 use Rattle.acts.specs.Laws.Linked.{responses_chained}
@@ -160,3 +162,8 @@ module _ (t : Table) (e clock kept : ℕ) (before : List ℕ) where
                 ∙ ap (λ (i : ℕ). sooner clock (smallest t e x i) (has dated x) old) (sym met.number)
                 ∙ w.deadlines x b;
           })
+
+      -- the same of the link as it is met, and of what is next then
+      pub answering_met : {l : Link} {next : ℕ} → l ≡ link_in link → next ≡ cond (ltb l.before n) l.before 0 → length before ≡ 192
+          → Answering next (with_event dated l.right) (set columns (64 + l.right) (date_after clock l.right l.time dated columns))
+      answering_met is to size = rw (to, is, lt-ltb (link % 512) n answering_less) (answering_more size)

@@ -1,20 +1,21 @@
 -- A relation stops by its right event's record, included or taken for it; the two searches are those of the rules, and the one begins where
 -- the other ends. Assumes nothing.
-use Rattle.std.specs.Prelude.{◌≡◌, Bool, true, false, not, ◌&&◌, ◌||◌, ℕ, ◌<◌, ◌≤◌, eqb, leb, ltb}
+use Rattle.std.specs.Prelude.{◌≡◌, Option, Some, None, Bool, true, false, not, ◌&&◌, ◌||◌, ℕ, ◌<◌, ◌≤◌, eqb, leb, ltb}
 use Rattle.std.proofs.Math.Path.{refl}
-use Rattle.std.proofs.Common.{◌∙◌, arith, le-ltb}
+use Rattle.std.proofs.Common.{◌∙◌, sym, arith, le-ltb, lt-ltb}
+use Rattle.std.specs.Option.{is_some}
 use Rattle.rules.specs.declared.Relation.{Relation}
 use Rattle.rules.specs.declared.Table.{Table}
 use Rattle.rules.specs.declared.Record.{Record}
 use Rattle.rules.specs.declared.Marking.{Marking}
-use Rattle.rules.specs.Counting.{lowest}
+use Rattle.rules.specs.Counting.{some, lowest}
 use Rattle.rules.specs.Holds.{is_condition, is_milestone, relation_of, record_of}
 use Rattle.rules.specs.Enabled.{stops, blocks}
 use Rattle.rules.specs.HoldUp.{would_block}
 use Rattle.rules.proofs.Laws.Tests.{clash, denied, both, join}
-use Rattle.rules.proofs.Laws.Counting.{lowest_none, lowest_before}
+use Rattle.rules.proofs.Laws.Counting.{lowest_none, lowest_before, lowest_some}
 use Rattle.rules.proofs.Laws.HoldUp.{stops_included}
-use Rattle.acts.specs.Blocking.{as_if, blocks_as}
+use Rattle.acts.specs.Blocking.{as_if, blocks_as, FoundLowest}
 
 pub stops_as : (returned : Bool) (k : Relation) (r : Record)
     → stops k (as_if returned r)
@@ -52,3 +53,13 @@ module _ (t : Table) (m : Marking) (e : ℕ) where
         let none : lowest t.count (blocks_as false t m e) ≡ t.count =
         lowest_none (blocks_as false t m e) t.count (λ k b. before k (omega (arith, b, past))) in
         rw (← lowest_now, none) (le-ltb t.count t.count (omega arith))
+
+-- the lowest is found where there is one
+pub found_some : (n : ℕ) (f : ℕ → Bool) (found : Option ℕ) → FoundLowest n f found → is_some found ≡ some n f
+found_some n f None is = sym (le-ltb (lowest n f) n (omega (arith, is))) ∙ lowest_some f n
+found_some n f (Some i) is = sym (lt-ltb (lowest n f) n (omega (arith, is.0, is.1))) ∙ lowest_some f n
+
+-- what is not a test's result is the test's denial
+pub flipped : (a b : Bool) → b ≡ not a → a ≡ not b
+flipped true b h = rw h
+flipped false b h = rw h

@@ -6,7 +6,7 @@ use Rattle.std.proofs.Math.Decide.{ℕ_discrete}
 use Rattle.std.proofs.Math.ListN.{length-set}
 use Rattle.std.proofs.lemmas.List.{get_or-replicate}
 use Rattle.std.proofs.Math.Seq.{get_or-set_same, get_or-set_other}
-use borrow.Author.Tests.{eq-eqb, ne_eqb, eqb-true, ltb-true, lt-ltb, le-ltb}
+use borrow.Author.Tests.{eq-eqb, ne_eqb, eqb-true, ltb-true, lt-ltb}
 use Rattle.rules.specs.declared.Relation.{Relation}
 use Rattle.rules.specs.declared.Table.{Table}
 use Rattle.rules.specs.Holds.{is_condition, is_response, is_inclusion, is_milestone, relation_of}
@@ -17,7 +17,7 @@ use Rattle.rules.proofs.Laws.Tests.{and_false, or_false}
 use Rattle.rules.proofs.Laws.Counting.{some_none, some_more}
 use Rattle.rules.proofs.Laws.EventSet.{has_with, has_zero}
 use Rattle.rules.proofs.Laws.Granted.{time_fits_lem}
-use Rattle.acts.specs.Derived.{sort_of, row_of, sorted, Derived, Unlinked, chain_of, is_chained, link_of, rows_noted, links_noted}
+use Rattle.acts.specs.Derived.{sort_of, row_of, sorted, Derived, Unlinked, chain_of, is_chained, link_of, row_noted, rows_begun, rows_noted, links_noted}
 
 -- what a relation of a judged table holds fits its digits
 module _ (t : Table) (g : GoodTable t) (k : ℕ) (b : k < t.count) where
@@ -165,6 +165,14 @@ module _ (rows : List ℕ) (at i : ℕ) (k : Relation) where
   unfolding rows_noted
   length_noted = simp length-set length_begun
 
+  -- its beginning is noted, and then its word
+  pub noted_begun : row_noted (rows_begun rows at i k) at k ≡ rows_noted rows at i k
+  unfolding rows_noted
+  noted_begun =
+      ap (λ (w : ℕ). set begun (at + sort_of k) (with_event w k.right))
+      (kept_if rows (at + chain_of (sort_of k)) (i + 1) (is_chained k) (at + sort_of k)
+      (λ chained h. absurd (omega (arith, h, sort_small k, chain_after (sort_of k) (ltb-true _ _ chained)))))
+
   -- the word of its sort has its right event
   pub noted_sort : at + 10 ≤ length rows → get_or (rows_noted rows at i k) (at + sort_of k) 0 ≡ with_event (get_or rows (at + sort_of k) 0) k.right
   unfolding rows_noted
@@ -203,22 +211,3 @@ module _ (links rows : List ℕ) (at i : ℕ) (k : Relation) where
   pub linked_other : (place : ℕ) → (place ≡ i → ⊥) → get_or (links_noted links rows at i k) place 0 ≡ get_or links place 0
   unfolding links_noted
   linked_other place apart = kept_if links i made (is_chained k) place (λ h. apart)
-
--- how it is noted, by whether it is in a chain
-module _ (links rows : List ℕ) (at i : ℕ) (k : Relation) {sort begins : ℕ} (sorted : sort ≡ sort_of k) (begun : begins ≡ chain_of sort) where
-  pub noted_chained : begins < 10
-      → (set (set rows (at + begins) (i + 1)) (at + sort) (with_event (get_or (set rows (at + begins) (i + 1)) (at + sort) 0) k.right) ≡ rows_noted rows at i k)
-      × (set links i (link_of (get_or rows (at + begins) 0 % 512) k) ≡ links_noted links rows at i k)
-  unfolding rows_noted links_noted
-  noted_chained few =
-      rw (get_or-set_other rows (at + begins) (at + sort) (i + 1) 0 apart, begun, sorted)
-      (let h = lt-ltb (chain_of (sort_of k)) 10 (rw (begun, sorted) at few) in (rw h, rw h))
-    where
-      -- its word is not where its chain begins
-      apart : at + sort ≡ at + begins → ⊥
-      apart h = absurd (omega (arith, sort_small k, sorted, chain_after sort (rw begun at few), begun))
-
-  pub noted_alone : 10 ≤ begins
-      → (set rows (at + sort) (with_event (get_or rows (at + sort) 0) k.right) ≡ rows_noted rows at i k) × (links ≡ links_noted links rows at i k)
-  unfolding rows_noted links_noted
-  noted_alone many = rw (sorted) (let h = le-ltb (chain_of (sort_of k)) 10 (rw (begun, sorted) at many) in (rw h, rw h))

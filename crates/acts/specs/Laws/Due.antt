@@ -1,10 +1,11 @@
 -- The due events of the marking that words stand for: of the events that may be due, those whose deadline is over. Assumes nothing.
 use Rattle.std.specs.Prelude.{◌≡◌, refl, Bool, true, false, ◌&&◌, ◌||◌, cond, List, ℕ, ◌<◌, ◌+◌, ◌-◌, ◌^◌, eqb, leb, ltb, get_or}
-use Rattle.std.proofs.Common.{◌∙◌, sym, arith}
+use Rattle.std.proofs.Common.{◌∙◌, ap, sym, arith}
+use Rattle.std.proofs.Math.Bool.{or_assoc, and_comm}
 use borrow.Author.Tests.{ltb-true, lt-ltb, leb-true, leb-false, eq-eqb, ne_eqb}
 use Rattle.rules.specs.declared.Record.{Record}
 use Rattle.rules.specs.declared.Marking.{Marking}
-use Rattle.rules.specs.EventSet.{has, with_event}
+use Rattle.rules.specs.EventSet.{has}
 use Rattle.rules.specs.Holds.{record_of}
 use Rattle.rules.specs.Time.{is_due, due_set, plain_tick_number}
 use Rattle.rules.proofs.Laws.Tests.{both}
@@ -12,7 +13,7 @@ use Rattle.rules.proofs.Laws.Time.{none_due_yet, some_due_still}
 use Rattle.acts.specs.Stands.{ticks_at, record_in, Stands, may_be_due}
 use Rattle.acts.specs.Laws.Stands.{stands_events, stands_at}
 use Rattle.acts.specs.Laws.Members.{set_by_test}
-use Rattle.acts.specs.Laws.Each.{chosen_in, chosen_out}
+use Rattle.acts.specs.Laws.Each.{each_out}
 
 -- the tick at which the deadline of x is over has come
 abbrev pub is_over : ℕ → List ℕ → ℕ → Bool
@@ -58,11 +59,11 @@ pub tick_held : (m : Marking) → (due_set m ≡ 0 → ⊥) → plain_tick_numbe
 unfolding plain_tick_number
 tick_held m some = rw (some_due_still m some)
 
--- of the events of a set those that pass a test: one event more is looked at
-pub chosen_more : (f : ℕ → Bool) (found left e : ℕ) {r : ℕ} (x : ℕ) {whole : Bool} → has left e ≡ true → r ≡ cond (f e) (with_event found e) found
+-- of the events of a set those that pass a test: one event more is looked at, and put in if it passes
+pub chosen_if : (f : ℕ → Bool) (found left e r x : ℕ) {whole : Bool} → has left e ≡ true → has r x ≡ (has found x || (f e && eqb e x))
     → (has found x || (has left x && f x)) ≡ whole → (has r x || (has (left - 2 ^ e) x && f x)) ≡ whole
-chosen_more f found left e {r} x {whole} inside made old = go (f e) refl made
-  where
-    go : (b : Bool) → f e ≡ b → r ≡ cond b (with_event found e) found → (has r x || (has (left - 2 ^ e) x && f x)) ≡ whole
-    go true h q = chosen_in f x found left e inside h q old
-    go false h q = chosen_out f x found left e inside h q old
+chosen_if f found left e r x {whole} inside made old =
+    rw made
+    (or_assoc (has found x) (f e && eqb e x) (has (left - 2 ^ e) x && f x)
+    ∙ ap (λ (b : Bool). has found x || (b || (has (left - 2 ^ e) x && f x))) (and_comm (f e) (eqb e x))
+    ∙ ap (λ (b : Bool). has found x || b) (sym (each_out left e inside f x)) ∙ old)

@@ -143,7 +143,7 @@ ticks_back true ticks until b e = omega arith
 ticks_back false ticks until b e = omega arith
 
 -- a judged marking that is laid stands in the words
-module _ (m : Marking) (few : m.events ≤ 64) (size : length m.records ≡ 64) (h i p b : ℕ) (sets columns : List ℕ) (four_sets : length sets ≡ 4)
+module _ (m : Marking) (few : m.events ≤ 64) (there : m.events ≤ length m.records) (h i p b : ℕ) (sets columns : List ℕ) (four_sets : length sets ≡ 4)
     (laid : Laid m m.events h i p b columns) (judged : GoodMarking m.events m)
   where
     member : (w : ℕ) (f : ℕ → Bool) → Upto f m.events w → (x : ℕ) → x < m.events → f x ≡ has w x
@@ -172,7 +172,7 @@ module _ (m : Marking) (few : m.events ≤ 64) (size : length m.records ≡ 64) 
       four_sets = (four sets h i p b four_sets).4;
       three_columns = laid.three_columns;
       ages_begun = λ x l. omega (arith, laid.ages_laid x l);
-      is = ap {B = Marking} (λ rs. record { records = rs; events = m.events }) (sym (places_drop empty_record _ m.events m.records (omega arith) back));
+      is = ap {B = Marking} (λ rs. record { records = rs; events = m.events }) (sym (places_drop empty_record _ m.events m.records there back));
     }
 
 -- a marking that is judged with a table is judged by itself, and what is laid of it has the table's events

@@ -1,4 +1,5 @@
--- Words known by their members: as the set of a test, without another set, the first events, without the lowest event. Assumes nothing.
+-- Words known by their members: as the set of a test, without another set, the first events, without the lowest event, and that taking it is a
+-- turn. Assumes nothing.
 use Rattle.std.specs.Prelude.{◌≡◌, refl, Bool, true, false, not, ◌&&◌, ℕ, ◌<◌, ◌≤◌, ◌+◌, ◌-◌, ◌/◌, ◌%◌, ◌^◌, eqb, ltb}
 use Rattle.std.proofs.Common.{◌∙◌, ap, sym, ⊎_elim, arith, lit<, shr-shr, pow_pos, eq-eqb, ne_eqb, lt-ltb, le-ltb, ltb-true, ltb-false}
 use Rattle.std.proofs.Math.Bool.{and-true}
@@ -11,6 +12,7 @@ use Rattle.rules.proofs.Laws.EventSet.{has_zero, has_small, set_has, set_holds, 
 use Rattle.rules.proofs.Laws.Bitwise.{has_and, has_not}
 use Rattle.rules.proofs.Laws.Turns.{same_word, empty_word, worth_le}
 use Rattle.acts.specs.Derived.{every_event}
+use Rattle.acts.specs.Events.{Taken}
 
 -- a word is the set of a test, if its members exist and pass the test where they exist
 pub set_by_test : (n w : ℕ) (f : ℕ → Bool) → ((x : ℕ) → has w x ≡ true → x < n) → ((x : ℕ) → x < n → has w x ≡ f x) → w ≡ set_of n f
@@ -70,3 +72,8 @@ module _ (w : ℕ) (fits : w < 2 ^ 64) (some-event : w ≡ 0 → ⊥) (e : ℕ) 
       go : Dec (x ≡ e) → has (w - 2 ^ e) x ≡ (has w x && not (eqb x e))
       go (yes q) = ap (has (w - 2 ^ e)) q ∙ has_minus_same w e lowest_found.holds ∙ rw (eq-eqb x e q) (sym (and_false (has w x)))
       go (no n) = has_minus_other w e lowest_found.holds x n ∙ rw (ne_eqb x e n) (sym (and-true (has w x)))
+
+  -- so it is taken, and the others are left
+  pub lowest_taken : Taken w e (w - 2 ^ e)
+  lowest_taken = let d = lowest_found in
+      record { small = d.small; inside = d.holds; first = d.first; worth = lowest_worth; others = refl; less = lowest_less }

@@ -1,6 +1,6 @@
 -- A walk over e's conditions with a time: none of those that were met lets e wait, so whether any does is asked of the rest. Assumes nothing.
-use Rattle.std.specs.Prelude.{◌≡◌, refl, Bool, true, false, ◌||◌, List, ℕ, ◌<◌, ◌≤◌, ◌+◌, ◌-◌, ◌%◌, get_or}
-use Rattle.std.proofs.Common.{◌∙◌, arith}
+use Rattle.std.specs.Prelude.{◌≡◌, refl, Bool, true, false, ◌||◌, cond, List, ℕ, ◌<◌, ◌≤◌, ◌+◌, ◌-◌, ◌%◌, ltb, get_or}
+use Rattle.std.proofs.Common.{◌∙◌, arith, lt-ltb}
 use Rattle.std.proofs.Math.Path.{ap}
 use Rattle.rules.specs.declared.Table.{Table}
 use Rattle.rules.specs.Counting.{some}
@@ -8,7 +8,9 @@ use Rattle.rules.proofs.Laws.Tests.{or_false}
 use Rattle.rules.proofs.Laws.Counting.{some_at, some_none}
 use Rattle.rules.specs.Shapes.Good.{GoodTable}
 use Rattle.acts.specs.Derived.{last_of, Own}
-use Rattle.acts.specs.Acting.{is_young, waits_for}
+use Rattle.acts.specs.declared.links.Link.{Link}
+use Rattle.acts.specs.Links.{link_in}
+use Rattle.acts.specs.Acting.{young_by, is_young, waits_for}
 use Rattle.acts.specs.Laws.Linked.{waits_chained}
 use Rattle.acts.specs.Laws.Walked.{last_kept, Next, next_last, LinkMet, met_next, met_less}
 
@@ -56,3 +58,11 @@ module _ (t : Table) (e clock included : ℕ) (columns : List ℕ) where
             rw met.next
             (waiting_last k (omega (arith, met.exists))
             (waiting.same ∙ ap waits met.number ∙ ap (λ (b : Bool). waits k || b) (said young) ∙ or_false (waits k)))
+
+        -- the same of the link as it is met, and of what is next then
+        pub waiting_met_here : {l : Link} → l ≡ link_in link → young_by clock included columns l.right l.time ≡ true → waits t.count ≡ true
+        waiting_met_here is young = waiting_here (rw is at young)
+
+        pub waiting_met : {l : Link} {next : ℕ} → l ≡ link_in link → next ≡ cond (ltb l.before n) l.before 0
+            → young_by clock included columns l.right l.time ≡ false → Waiting next
+        waiting_met is to young = rw (to, is, lt-ltb (link % 512) n waiting_less) (waiting_more (rw is at young))

@@ -1,63 +1,47 @@
--- `chain::chain` gives the first number that is not 'done'; where all are, the list and its length. Every test stands before the first store.
-use mathlib.Core.Path.{◌≡◌, refl, sym, ap, ◌∙◌}
-use mathlib.Core.Bool.{not}
-use Prim.Native.Nat.{ℕ}
-use borrow.Author.Tests.{ne_eqb, ltb-false}
-use lib.Dec.{ltb}
-use lib.ListN.{length}
-use Rattle.rules.specs.Numbers.{◌if◌, ◌else◌}
-use Rattle.rules.specs.Holds.{most_relations}
-use Rattle.rules.specs.declared.Table.{Table}
-use Rattle.rules.specs.declared.Marking.{Marking}
-use Rattle.rules.specs.Judge.{judged, event_number, table_number, marking_number_for}
-use Rattle.rules.specs.Chain.{chain_number, chain_answer, chain_list}
-use Rattle.rules.proofs.Laws.Numbers.{if_done, both_done, else_joined}
-use Rattle.rules.proofs.Laws.Judge.{good, judged_by, event_by}
+-- Judged first, then the event, then the room: the first that refuses has the rules' number, and leaves the list.
+use Rattle.std.proofs.Common.{◌≡◌, ◌∙◌, ℕ, Err, rules, sym, ap}
+use Rattle.rules.specs.Results.{as_chain}
+use Rattle.rules.proofs.Laws.Judge.{good}
 use Rattle.rules.proofs.Laws.Granted.{event_exists}
+use Rattle.chain.specs.Laws.Answered.{unjudged, no_event, no_room, granted}
 use Rattle.chain.proofs.chain.Goals as goal
 
--- the number, once all is asked
-number : (t : Table) (m : Marking) (event room : ℕ) {first second third last : ℕ} → first ≡ table_number t
-    → second ≡ (first else marking_number_for t.events m) → third ≡ (second else 8 if not (ltb event t.events))
-    → last ≡ (third else 14 if ltb room most_relations) → last ≡ chain_number t m event room
-unfolding chain_number
-number t m event room table marking asked whole =
-    whole
-    ∙ ap (λ (n : ℕ). n else 14 if ltb room most_relations) (event_by t m event (judged_by t m table marking) asked)
-    ∙ else_joined (judged t m) (event_number t event) _
-
-pub listed-count-requires : goal.listed-count-requires
-unfolding chain_number
-listed-count-requires c =
+pub returns-in_err-judge : goal.returns-in_err-judge
+returns-in_err-judge c =
     let a = c.args in
-    let asked = number a.t a.m a.event (length a.list.now) c.judge_table.ensures c.then_marking-judged.ensures c.then_event-asked.ensures
-    c.then_room-number.ensures in
-    let granted = sym asked ∙ c.if-number-eq0.true in
-    let p = both_done (judged a.t a.m) _ granted in
-    let q = both_done (event_number a.t a.event) _ p.1 in record {
-      good = (good a.t a.m p.0, event_exists a.t a.event q.0);
-      most_relations_in_bounds = ltb-false _ _ (if_done 13 _ q.1);
+    let told = unjudged a.t.now a.m.now a.event a.list.now c.in_err-judge.field-0.0 c.in_err-judge.ensures in
+    let is : c.from_residual.result ≡ Err c.in_err-judge.field-0.0 = search rules in record {
+      answer = ap as_chain is ∙ told.0;
+      list = told.1;
     }
 
-pub returns-then-number-eq0 : goal.returns-then-number-eq0
-unfolding chain_answer chain_list
-returns-then-number-eq0 c =
+pub returns-in_err-exists : goal.returns-in_err-exists
+returns-in_err-exists c =
     let a = c.args in
-    let asked = number a.t a.m a.event (length a.list.now) c.judge_table.ensures c.then_marking-judged.ensures c.then_event-asked.ensures
-    c.then_room-number.ensures in
-    let granted = sym asked ∙ c.if-number-eq0.true in
-    rw granted record {
-      answer = ap (λ (n : ℕ). record { number = 0; count = n }) c.listed-count.ensures.count;
-      list = c.listed-count.ensures.list;
+    let told = no_event a.t.now a.m.now a.event a.list.now (sym c.in_ok-judge.ensures) c.in_err-exists.field-0.0 c.in_err-exists.ensures in
+    let is : c.from_residual-in_err-exists.result ≡ Err c.in_err-exists.field-0.0 = search rules in record {
+      answer = ap as_chain is ∙ told.0;
+      list = told.1;
     }
+
+pub returns-then-list-lt-MOST_RELATIONS : goal.returns-then-list-lt-MOST_RELATIONS
+returns-then-list-lt-MOST_RELATIONS c =
+    let a = c.args in
+    let told = no_room a.t.now a.m.now a.event a.list.now (sym c.in_ok-judge.ensures) (sym c.in_ok-exists.ensures)
+    c.if-list-lt-MOST_RELATIONS.true in record {
+      answer = told.0;
+      list = told.1;
+    }
+
+pub listed-requires-clause-good : goal.listed-requires-clause-good
+listed-requires-clause-good c =
+    (good c.args.t.now c.args.m.now (sym c.in_ok-judge.ensures), event_exists c.args.t.now c.args.event (sym c.in_ok-exists.ensures))
 
 pub returns : goal.returns
-unfolding chain_answer chain_list
 returns c =
     let a = c.args in
-    let asked = number a.t a.m a.event (length a.list.now) c.judge_table.ensures c.then_marking-judged.ensures c.then_event-asked.ensures
-    c.then_room-number.ensures in
-    rw (← asked, ne_eqb _ 0 c.if-number-eq0.false) record {
-      answer = refl;
-      list = refl;
+    let told = granted a.t.now a.m.now a.event a.list.now (sym c.in_ok-judge.ensures) (sym c.in_ok-exists.ensures)
+    c.if-list-lt-MOST_RELATIONS.false in record {
+      answer = ap (λ (n : ℕ). record { number = 0; count = n }) c.listed.ensures.count ∙ told.0;
+      list = c.listed.ensures.list ∙ told.1;
     }

@@ -4,7 +4,7 @@ use Rattle.std.proofs.Common.{sym, ap, ap₂, ◌∙◌, add-zero, zero-add, add
 use Rattle.std.proofs.lemmas.List.{set_at}
 use Rattle.std.proofs.Math.Seq.{append_snoc}
 use Rattle.rules.specs.Chain.{Link, Visit, nothing, place_of, places_of}
-use Rattle.chain.specs.Words.{State, with_opened, noted, notes, carried}
+use Rattle.chain.specs.Visits.{State, with_opened, noted, notes, carried}
 
 notes_append : (a b : List Link) (s : State) → notes (a ++ b) s ≡ notes b (notes a s)
 unfolding notes
@@ -37,6 +37,15 @@ note l s h = simp (lt-ltb _ _ h)
 pub full : (l : Link) (s : State) → length s.list ≤ s.count → noted l s ≡ s
 unfolding noted
 full l s h = simp (le-ltb _ _ h)
+
+-- a link opens nothing
+pub noted_keeps : (l : Link) (s : State) → (noted l s).opened ≡ s.opened
+unfolding noted
+noted_keeps l s = go (ltb s.count (length s.list))
+  where
+    go : (room : Bool) → (cond room (record { opened = s.opened; count = s.count + 1; list = set s.list s.count (place_of l) }) s).opened ≡ s.opened
+    go true = refl
+    go false = refl
 
 -- one visit and then another
 pub carried_joined : (a b : Visit) (s : State) → carried b (carried a s) ≡ carried (record { opened = b.opened; links = a.links ++ b.links }) s

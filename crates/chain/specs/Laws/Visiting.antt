@@ -1,5 +1,5 @@
 -- A visit that is carried out piece by piece, from one blocking relation to the next. Assumes nothing.
-use Rattle.std.specs.Prelude.{◌≡◌, refl, true, false, List, ◌++◌, eqb}
+use Rattle.std.specs.Prelude.{◌≡◌, refl, true, false, List, ◌++◌, Option, Some, None, eqb}
 use Rattle.std.proofs.Common.{sym, ◌∙◌, add-zero, add-suc, arith, eq-eqb}
 use Rattle.std.proofs.Math.Path.{ap}
 use Prim.Native.Nat.{ℕ, zero, suc, ◌+◌, ◌-◌, ◌<◌, ◌≤◌}
@@ -13,7 +13,7 @@ use Rattle.rules.proofs.Laws.EventSet.{has_with}
 use Rattle.rules.proofs.Laws.Counting.{many_lt, many_le}
 use Rattle.rules.proofs.Laws.Tests.{or_left, or_right}
 use Rattle.rules.proofs.Laws.Links.{append_nothing}
-use Rattle.chain.specs.Words.{State, step, noted, notes, carried, First}
+use Rattle.chain.specs.Visits.{State, step, noted, notes, carried, First}
 use Rattle.chain.specs.Laws.Notes.{carried_joined, carried_nothing}
 
 -- an event that is opened makes the set larger, and there are at most 64
@@ -59,39 +59,37 @@ module _ (t : Table) (m : Marking) where
   unfolding visit
   new f d e s h there = rw (h, there)
 
-  -- what a walk from some state has come to, where all relations before k are done: past the last one, all of them
-  abbrev pub Come : (g : ℕ → ℕ → Visit) (o k : ℕ) → State → State → Type 0
-  Come g o k s now = (k ≤ t.count → now ≡ carried (along k g o) s) × (t.count ≤ k → now ≡ carried (along t.count g o) s)
+  -- what a walk from some state has come to, where all relations before the next one are done: past the last one, all of them
+  abbrev pub Come : (g : ℕ → ℕ → Visit) (o : ℕ) → State → State → Option ℕ → Type 0
+  Come g o s now None = now ≡ carried (along t.count g o) s
+  Come g o s now (Some k) = now ≡ carried (along k g o) s
 
   module _ (f d e o : ℕ) (s now : State) where
     abbrev g : ℕ → ℕ → Visit
     g = step t m f d e
 
     -- to the next relation that blocks: of those between nothing is made
-    come_on : (from k : ℕ) → First (blocks t m e) t.count from k → from ≤ t.count → now ≡ carried (along from g o) s → Come g o k s now
-    come_on from k first few is = (
-      λ le. is ∙ ap (λ (v : Visit). carried v s) (sym (along_skip g from k o first.on (λ j p a b. skip j p a b (omega (arith, b, le))))),
-      λ le. is ∙ ap (λ (v : Visit). carried v s) (sym (along_skip g from t.count o few (λ j p a b. skip j p a (omega (arith, b, le)) b))),
-    )
-      where
-        skip : (j p : ℕ) → from ≤ j → j < k → j < t.count → g j p ≡ nothing p
-        skip j p a b c = rw (first.none j a b c)
+    come_on : (from : ℕ) (next : Option ℕ) → First (blocks t m e) t.count from next → from ≤ t.count → now ≡ carried (along from g o) s
+        → Come g o s now next
+    come_on from None first few is =
+        is ∙ ap (λ (v : Visit). carried v s) (sym (along_skip g from t.count o few (λ j p a b. rw (first j a b))))
+    come_on from (Some k) first few is =
+        is ∙ ap (λ (v : Visit). carried v s) (sym (along_skip g from k o first.on (λ j p a b. rw (first.before j a b))))
 
-    pub comes : (k : ℕ) → First (blocks t m e) t.count 0 k → now ≡ carried (nothing o) s → Come g o k s now
+    pub comes : (next : Option ℕ) → First (blocks t m e) t.count 0 next → now ≡ carried (nothing o) s → Come g o s now next
     unfolding along
-    comes k first is = come_on 0 k first (omega arith) is
+    comes next first is = come_on 0 next first (omega arith) is
 
     -- one that blocks, and on to the next
-    pub goes_on : (k next : ℕ) (was : State) → k < t.count → blocks t m e k ≡ true → Come g o k s was
+    pub goes_on : (k : ℕ) (next : Option ℕ) (was : State) → k < t.count → blocks t m e k ≡ true → Come g o s was (Some k)
         → now ≡ carried (led_to k d (visit t m f (suc d) (relation_of t k).right was.opened)) was
-        → First (blocks t m e) t.count (suc k) next → Come g o next s now
+        → First (blocks t m e) t.count (suc k) next → Come g o s now next
     unfolding along carried
     goes_on k next was few is come done first =
-        let before = come.0 (omega (arith, few)) in
         come_on (suc k) next first few
         (done
         ∙ ap (λ (v : Visit). carried v was) (rw is)
-        ∙ ap (λ (n : State). carried (g k n.opened) n) before
+        ∙ ap (λ (n : State). carried (g k n.opened) n) come
         ∙ carried_joined (along k g o) (g k (along k g o).opened) s)
 
 -- a relation: it is noted, and then its right event is visited

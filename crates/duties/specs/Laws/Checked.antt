@@ -4,7 +4,7 @@ use Rattle.std.proofs.Common.{subst}
 use borrow.Author.Tests.{ne_eqb}
 use Rattle.rules.specs.declared.Table.{Table}
 use Rattle.rules.specs.declared.Marking.{Marking}
-use Rattle.rules.specs.declared.CheckAnswer.TheVariants.{Refused, Accepts, Rejects}
+use Rattle.rules.specs.CheckAnswer.{Refused, Accepts, Rejects}
 use Rattle.rules.specs.Judge.{judged}
 use Rattle.rules.specs.Check.{reason, verdict, check}
 use Rattle.rules.specs.Guard.{caused, guarded, guarded_tick}

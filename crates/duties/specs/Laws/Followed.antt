@@ -1,8 +1,12 @@
 -- Words lead where a table's relations do, a word for each event or its row: from an event to its inhibitors, from a set to all that it reaches,
 -- so to the closure, the needed set and what an event waits for, and to the events that are ready. Assumes nothing.
-use Rattle.std.specs.Prelude.{◌≡◌, Bool, ◌&&◌, ◌||◌, List, ◌⊎◌, ℕ, zero, suc, ◌<◌, ◌≤◌, ◌^◌, ltb, length}
+use Rattle.std.specs.Prelude.{◌≡◌, Bool, ◌&&◌, ◌||◌, List, ◌⊎◌, ℕ, zero, suc, ◌<◌, ◌≤◌, ◌+◌, ◌^◌, ltb, length, set, replicate}
 use Rattle.std.proofs.Math.Path.{refl, ap}
 use Rattle.std.proofs.Common.{◌∙◌, ap₂, sym, subst, ⊎_elim, inl, inr, arith, eqb-true, eq-eqb, ne_eqb, lt-ltb, ltb-true, ltb-false}
+use Rattle.std.proofs.Common.{get_or-set_same, get_or-set_other}
+use Rattle.std.proofs.Math.Decide.{ℕ_discrete}
+use Rattle.std.proofs.Math.ListN.{length-set}
+use Rattle.std.proofs.lemmas.List.{get_or-replicate}
 use Rattle.std.proofs.Math.Bool.{true, false, not, and-true, and-or_distrib_right}
 use Rattle.std.proofs.Math.Dec.{eqb}
 use Rattle.std.specs.Int.Bits.{bit_or, bit_and}
@@ -123,6 +127,32 @@ module _ (t : Table) (good : GoodTable t) where
         (word_at (word_of words) (λ i. followed (relation_of t i)) made.word k l f))
         (set_of t.events (follows t e)) (λ x h. first x (word_follows e b x ∙ (set_holds (follows t e) t.events x h).1))
 
+-- the first e words are made of rows, the others are 0
+pub record Made (rows : List ℕ) (e : ℕ) (words : List ℕ) : Type 0 where
+  pub long : length words ≡ 64
+  pub made : (x : ℕ) → x < e → word_of words x ≡ followed_in rows every_event every_event x
+  pub others : (x : ℕ) → e ≤ x → x < 64 → word_of words x ≡ 0
+
+pub made_none : (rows : List ℕ) → Made rows 0 (replicate 64 0)
+made_none rows = record {
+  long = refl;
+  made = λ x b. absurd (omega (arith, b));
+  others = λ x l b. get_or-replicate 64 x 0 0 b;
+}
+
+pub made_more : {rows words : List ℕ} {e : ℕ} → e < 64 → Made rows e words
+    → Made rows (e + 1) (set words e (followed_in rows every_event every_event e))
+made_more {rows} {words} {e} few old = record {
+  long = length-set words e _ ∙ old.long;
+  made = λ x b. at x b (ℕ_discrete x e);
+  others = λ x l b. get_or-set_other words e x _ 0 (λ q. absurd (omega (arith, q, l))) ∙ old.others x (omega (arith, l)) b;
+}
+  where
+    at : (x : ℕ) → x < e + 1 → Dec (x ≡ e)
+        → word_of (set words e (followed_in rows every_event every_event e)) x ≡ followed_in rows every_event every_event x
+    at x b (yes q) = rw q (get_or-set_same words e _ 0 (omega (arith, old.long, few)))
+    at x b (no n) = get_or-set_other words e x _ 0 n ∙ old.made x (omega (arith, b, n))
+
 -- The rows of a table lead where its relations do.
 module _ (t : Table) (good : GoodTable t) (rows : List ℕ) (made : Derived t t.count rows) where
   -- the relations of an event e that lead to x
@@ -181,22 +211,21 @@ module _ (t : Table) (good : GoodTable t) (rows : List ℕ) (made : Derived t t.
   unfolding follows
   followed_follow e b x = followed_all e b x
 
-  -- the words of its events, each made of a row, and the words past them 0
-  pub words_followed : (words : List ℕ) → length words ≡ 64 → ((e : ℕ) → e < t.events → word_of words e ≡ followed_in rows every_event every_event e)
-      → ((e : ℕ) → t.events ≤ e → e < 64 → word_of words e ≡ 0) → Followed t t.count words
-  words_followed words long those others = record {
-    size = long;
+  -- the words of its events, each made of a row
+  pub words_followed : (words : List ℕ) → Made rows t.events words → Followed t t.count words
+  words_followed words made_of_rows = record {
+    size = made_of_rows.long;
     word = λ e b x. ⊎_elim (there e b x) (past e b x) (decide (ltb e t.events));
   }
     where
       there : (e : ℕ) → e < 64 → (x : ℕ) → ltb e t.events ≡ true
           → has (word_of words e) x ≡ some t.count (λ k. followed (relation_of t k) && leads (relation_of t k) e x)
-      there e b x l = ap (λ (w : ℕ). has w x) (those e (ltb-true e t.events l)) ∙ followed_all e b x
+      there e b x l = ap (λ (w : ℕ). has w x) (made_of_rows.made e (ltb-true e t.events l)) ∙ followed_all e b x
 
       past : (e : ℕ) → e < 64 → (x : ℕ) → ltb e t.events ≡ false
           → has (word_of words e) x ≡ some t.count (λ k. followed (relation_of t k) && leads (relation_of t k) e x)
       past e b x l =
-          ap (λ (w : ℕ). has w x) (others e (ltb-false e t.events l) b) ∙ has_zero x
+          ap (λ (w : ℕ). has w x) (made_of_rows.others e (ltb-false e t.events l) b) ∙ has_zero x
           ∙ sym (some_false (λ k. followed (relation_of t k) && leads (relation_of t k) e x) t.count (λ k c. rw
           (ne_eqb (relation_of t k).left e (λ q. absurd (omega (arith, (good.relations_good k c).left_exists, q, ltb-false e t.events l))))
           (and_false (followed (relation_of t k)))))

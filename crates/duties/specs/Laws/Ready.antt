@@ -5,10 +5,8 @@ use Rattle.std.proofs.Common.{◌∙◌, ap, ap₂, sym, ⊎_elim, get_or-set_sa
 use Rattle.std.proofs.Math.Decide.{ℕ_discrete}
 use Rattle.std.proofs.lemmas.List.{get_or-replicate}
 use Rattle.std.specs.Int.Bits.{bit_or, bit_and}
-use Rattle.rules.specs.Counting.{lowest}
-use Rattle.rules.specs.EventSet.{has, lowest_of, with_event}
+use Rattle.rules.specs.EventSet.{has, with_event}
 use Rattle.rules.proofs.Laws.Tests.{decide, clash, denied, affirmed, both, either, join, or_left, or_right, same_test}
-use Rattle.rules.proofs.Laws.Counting.{lowest_same}
 use Rattle.rules.proofs.Laws.EventSet.{has_zero, has_minus_same, has_minus_other}
 use Rattle.rules.proofs.Laws.Bitwise.{has_or, has_and}
 use Rattle.rules.proofs.Laws.Turns.{same_word}
@@ -95,11 +93,6 @@ pub record Ready (rows : List ℕ) (needed untaken ready : ℕ) : Type 0 where
   pub told : (x : ℕ) → has ready x ≡ ready_in rows untaken x
 
 module _ {rows : List ℕ} {needed untaken ready : ℕ} (r : Ready rows needed untaken ready) where
-  -- the lowest of the word is the lowest ready one
-  pub ready_lowest : (e : ℕ) → e ≡ lowest_of ready → e ≡ lowest 64 (ready_in rows untaken)
-  unfolding lowest_of
-  ready_lowest e at = at ∙ lowest_same _ _ 64 (λ x b. r.told x)
-
   module _ (e : ℕ) (is-ready : has ready e ≡ true) where
     pub ready_untaken : has untaken e ≡ true
     ready_untaken = (both (has untaken e) _ (sym (r.told e) ∙ is-ready)).0

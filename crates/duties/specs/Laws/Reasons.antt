@@ -1,5 +1,6 @@
 -- The words and places that the engine works out are the reasons of the static check. Assumes nothing.
-use Rattle.std.specs.Prelude.{◌≡◌, refl, Bool, false, not, ◌&&◌, List, eqb, ltb}
+use Rattle.std.specs.Prelude.{◌≡◌, refl, Bool, false, not, ◌&&◌, cond, List, Some, None, eqb, ltb}
+use Rattle.std.proofs.lemmas.Option.{none-some, cond_some}
 use Rattle.std.proofs.Common.{◌∙◌, subst, arith}
 use Rattle.std.proofs.Math.Path.{ap, ap₂, sym}
 use Rattle.std.proofs.Math.Bool.{true, ◌||◌, and-true, and_assoc, and_comm, and-or_distrib_right}
@@ -7,36 +8,40 @@ use Rattle.std.proofs.Math.Logic.{⊎_elim}
 use Prim.Native.Nat.{ℕ, ◌<◌, ◌≤◌, ◌^◌}
 use Rattle.std.proofs.Math.Decide.{ℕ_discrete}
 use Rattle.std.specs.Int.Bits.{bit_or, bit_and}
-use borrow.Author.Tests.{eqb-true, eq-eqb, ne_eqb, lt-ltb, le-ltb, ltb-true}
+use borrow.Author.Tests.{eqb-true, eq-eqb, ne_eqb, lt-ltb, le-ltb, ltb-true, ltb-false}
 use Rattle.rules.specs.declared.Relation.{Relation}
 use Rattle.rules.specs.declared.Table.{Table}
 use Rattle.rules.specs.declared.Marking.{Marking}
-use Rattle.rules.specs.declared.CheckAnswer.{CheckAnswer}
-use Rattle.rules.specs.declared.CheckAnswer.TheVariants.{Accepts, Rejects}
+use Rattle.rules.specs.CheckAnswer.{CheckAnswer, Refused, Accepts, Rejects}
+use Rattle.rules.specs.Results.{reason_number}
 use Rattle.rules.specs.Counting.{some, lowest}
-use Rattle.rules.specs.EventSet.{has, set_of, lowest_of}
+use Rattle.rules.specs.EventSet.{has, set_of}
 use Rattle.rules.specs.Holds.{is_condition, is_response, is_inclusion, is_exclusion, is_milestone, is_controllable, relation_of, record_of}
 use Rattle.rules.specs.Effect.{leads}
-use Rattle.rules.specs.Closure.{inhibits, busy}
-use Rattle.rules.specs.Check.{unreportable, uncausable, waiting, on_cycle, reopening, reviving, reason}
+use Rattle.rules.specs.Closure.{inhibits, busy, closure}
+use Rattle.rules.specs.Check.{unreportable, uncausable, waiting, on_cycle, reopening, reviving, reason, verdict}
 use Rattle.rules.proofs.Laws.Tests.{decide, clash, not_true, both, either, join, same_test}
 use Rattle.rules.proofs.Laws.Counting.{some_where, some_at, lowest_cases, lowest_is, lowest_none, lowest_same}
-use Rattle.rules.proofs.Laws.EventSet.{has_zero, set_has, set_holds, set_fits}
+use Rattle.rules.proofs.Laws.EventSet.{has_zero, set_has, set_holds}
 use Rattle.rules.proofs.Laws.Bitwise.{has_or, has_and, has_one}
 use Rattle.rules.specs.Shapes.Good.{GoodTable}
 use Rattle.rules.proofs.Laws.Widened.{has_below}
 use Rattle.acts.specs.declared.derived.Head.{Head}
-use Rattle.acts.specs.Derived.{sort_of, head_of, Derived, every_event}
-use Rattle.duties.specs.Inhibition.{inhibitors_in, Followed, Answers, held_in}
-use Rattle.duties.specs.Reasons.{Led, Ends, matters, applies, first_reason, verdict_of}
-use Rattle.acts.specs.Laws.Members.{set_by_test, has_every, lowest_found}
+use Rattle.acts.specs.declared.table_words.Rows.{Rows}
+use Rattle.acts.specs.Events.{Taken}
+use Rattle.acts.specs.Words.{RowsOf}
+use Rattle.acts.specs.Derived.{sort_of, row_of, sorted, Derived, every_event}
+use Rattle.duties.specs.Inhibition.{inhibitors_in, is_answer, Answers, held_in, place}
+use Rattle.duties.specs.declared.reasons.Finding.{Finding}
+use Rattle.duties.specs.Reasons.{Led, Ends, matters, applies, first_reason, rejection_by, verdict_of}
+use Rattle.acts.specs.Laws.Members.{set_by_test, has_every}
 use Rattle.acts.specs.Laws.Derived.{right_small}
 use Rattle.duties.specs.Laws.Sets.{is_owed}
 use Rattle.acts.specs.Laws.Sorts.{sorts}
 use Rattle.acts.specs.Laws.Sorted.{some_either}
 use Rattle.duties.specs.Laws.Followed.{inhibitors_are}
 use Rattle.acts.specs.Laws.Each.{some_member}
-use Rattle.duties.specs.Laws.Ends.{ends_same, ends_or, ends_and, ends_none, ends_exist, ends_some, from, led_ends, led_every}
+use Rattle.duties.specs.Laws.Ends.{ends_same, ends_or, ends_and, ends_exist, from, led_ends, led_every}
 
 -- what is sought among more places than exist is the lowest place that exists, or there is none
 module _ (n room r : ℕ) (f g : ℕ → Bool) (exists : (x : ℕ) → f x ≡ true → x < n) (same : (x : ℕ) → x < n → f x ≡ g x) (at : r ≡ lowest room f) where
@@ -56,17 +61,30 @@ module _ (n room r : ℕ) (f g : ℕ → Bool) (exists : (x : ℕ) → f x ≡ t
       (lowest_cases f room)
 
 -- the lowest event of a word is the lowest place of its test
-module _ (n w : ℕ) (f : ℕ → Bool) (few : n ≤ 64) (made : w ≡ set_of n f) where
+module _ (n w : ℕ) (f : ℕ → Bool) (made : w ≡ set_of n f) where
   pub place_none : w ≡ 0 → lowest n f ≡ n
   place_none e = lowest_none f n (λ y l. sym (set_has f n y l) ∙ ap (λ (v : ℕ). has v y) (sym made ∙ e) ∙ has_zero y)
 
-  pub place_at : (r : ℕ) → r ≡ lowest_of w → (w ≡ 0 → ⊥) → (lowest n f ≡ r) × (r < n)
-  unfolding lowest_of
-  place_at r at filled =
-      sought_at n 64 r (has w) f
-      (λ x h. (set_holds f n x (ap (λ (v : ℕ). has v x) (sym made) ∙ h)).0)
-      (λ x b. ap (λ (v : ℕ). has v x) made ∙ set_has f n x b)
-      at (lowest_found w (rw made (set_fits f n few)) filled r at).small
+  pub place_at : {r rest : ℕ} → Taken w r rest → (lowest n f ≡ r) × (r < n)
+  place_at {r} t =
+      let there = set_holds f n r (ap (λ (v : ℕ). has v r) (sym made) ∙ t.inside) in (
+        lowest_is f n r there.0 there.1
+            (λ y l. sym (set_has f n y (omega (arith, l, there.0))) ∙ ap (λ (v : ℕ). has v y) (sym made) ∙ t.first y l),
+        there.0,
+      )
+
+-- a place among the first n, or none
+pub place_past : (n p : ℕ) → None ≡ place n p → n ≤ p
+place_past n p = go (ltb p n) refl
+  where
+    go : (b : Bool) → ltb p n ≡ b → None ≡ cond b (Some p) None → n ≤ p
+    go true e h = absurd (none-some p h)
+    go false e h = ltb-false p n e
+
+pub place_in : (n p r : ℕ) → Some r ≡ place n p → (r ≡ p) × (r < n)
+place_in n p r h =
+    let q = cond_some (ltb p n) p r (sym h) in
+    (sym q.1, subst (λ (x : ℕ). x < n) q.1 (ltb-true p n q.0))
 
 -- a reason at its place, or the next
 pub reason_none : (number n : ℕ) (f : ℕ → Bool) (next : CheckAnswer) → lowest n f ≡ n → reason number n f next ≡ next
@@ -74,6 +92,35 @@ reason_none number n f next e = rw (e, le-ltb n n (omega arith))
 
 pub reason_at : (number n p : ℕ) (f : ℕ → Bool) (next : CheckAnswer) → (lowest n f ≡ p) × (p < n) → reason number n f next ≡ Rejects number p
 reason_at number n p f next at = rw (at.0, lt-ltb p n at.1)
+
+module _ (t : Table) (good : GoodTable t) (rows : List ℕ) (made : Derived t t.count rows) where
+  -- what answers a bounded response, by the rows
+  pub answers_told : (answers : ℕ) → ((x : ℕ) → has answers x ≡ some t.events (λ e. has (row_of rows e 3) x)) → Answers t t.count answers
+  answers_told answers told x = told x ∙ same_test _ _ there back
+    where
+      -- a relation by which x answers
+      answering : ℕ → Bool
+      answering k = is_answer (relation_of t k) && eqb (relation_of t k).right x
+
+      there : some t.events (λ e. has (row_of rows e 3) x) ≡ true → some t.count answering ≡ true
+      there h =
+          let e = some_where _ t.events h in
+          let k = some_where (sorted t 3 e.0 x) t.count (sym (made.row e.0 (omega (arith, e.1, good.few_events)) 3 (omega arith) x) ∙ e.2) in
+          let p = both (eqb (sort_of (relation_of t k.0)) 3) (leads (relation_of t k.0) e.0 x) k.2 in
+          some_at answering t.count k.0 k.1
+          (join (sym (sorts (relation_of t k.0) (good.relations_good k.0 k.1)).answers ∙ p.0)
+          (both (eqb (relation_of t k.0).left e.0) (eqb (relation_of t k.0).right x) p.1).1)
+
+      back : some t.count answering ≡ true → some t.events (λ e. has (row_of rows e 3) x) ≡ true
+      back h =
+          let k = some_where answering t.count h in
+          let p = both (is_answer (relation_of t k.0)) (eqb (relation_of t k.0).right x) k.2 in
+          let l = (relation_of t k.0).left in
+          let exists = (good.relations_good k.0 k.1).left_exists in
+          some_at (λ e. has (row_of rows e 3) x) t.events l exists
+          (made.row l (omega (arith, exists, good.few_events)) 3 (omega arith) x
+          ∙ some_at (sorted t 3 l x) t.count k.0 k.1
+          (join ((sorts (relation_of t k.0) (good.relations_good k.0 k.1)).answers ∙ p.0) (join (eq-eqb l l refl) p.1)))
 
 module _ (t : Table) (good : GoodTable t) (m : Marking) (every : ℕ) (all : (x : ℕ) → has every x ≡ ltb x t.events) where
   -- busy
@@ -93,12 +140,6 @@ module _ (t : Table) (good : GoodTable t) (m : Marking) (every : ℕ) (all : (x 
       within x b = has_and owed every x ∙ rw (all x, lt-ltb x t.events b) (and-true (has owed x))
 
   module _ (rows : List ℕ) (made : Derived t t.count rows) where
-    -- what answers a bounded response, by the rows
-    pub answers_told : (answers : ℕ) → Led rows 3 every answers → Answers t t.count answers
-    answers_told answers led =
-        ends_same t _ _ answers (λ k b. (sorts (relation_of t k) (good.relations_good k b)).answers)
-        (led_every t good rows made 3 every answers (omega arith) all led)
-
     -- an event has an inhibitor where a relation that inhibits has it as left
     held_where : (e : ℕ) → e < t.events
         → not (eqb (inhibitors_in rows e) 0) ≡ some t.count (λ k. inhibits (relation_of t k) && eqb (relation_of t k).left e)
@@ -310,76 +351,112 @@ after_three t closed = reason 4 t.events (on_cycle t closed) (after_four t close
 abbrev pub after_two : Table → ℕ → CheckAnswer
 after_two t closed = reason 3 t.count (waiting t closed) (after_three t closed)
 
--- the words are those of a judged table, and the set is one of its events
-pub record Given (t : Table) (rows words : List ℕ) (head : Head) (closed : ℕ) : Type 0 where
-  pub good : GoodTable t
-  pub made : Derived t t.count rows
-  pub followed : Followed t t.count words
-  pub headed : head ≡ head_of t
-  pub fits : closed < 2 ^ t.events
+is_accepts : CheckAnswer → Bool
+is_accepts Accepts = true
+is_accepts (Rejects r p) = false
+is_accepts (Refused n) = false
 
-pub given : {t : Table} {rows words : List ℕ} {head : Head} {closed : ℕ} → GoodTable t → Derived t t.count rows → Followed t t.count words
-    → head ≡ head_of t → closed < 2 ^ t.events → Given t rows words head closed
-given good made followed headed fits = record { good = good; made = made; followed = followed; headed = headed; fits = fits }
+accepts_not_rejects : (r p : ℕ) → Accepts ≡ Rejects r p → ⊥
+unfolding is_accepts
+accepts_not_rejects r p h = clash (ap is_accepts (sym h)) refl
 
--- Each reason: its word is 0 and what is left is said, or it is not and this is the place.
-module _ {t : Table} {rows words : List ℕ} {head : Head} {closed : ℕ} (g : Given t rows words head closed) where
-  module _ (w : ℕ) (made : (x : ℕ) → has w x ≡ (has closed x && not (has head.causable x))) where
-    two_word : w ≡ set_of t.events (uncausable t closed)
-    two_word = uncausable_word t closed g.fits w (λ x. made x ∙ ap (λ (h : Head). has closed x && not (has h.causable x)) g.headed)
+-- a reason by itself says that it does not apply, or where it does, whatever would be next
+module _ (number n : ℕ) (f : ℕ → Bool) (next : CheckAnswer) where
+  reason_on : Accepts ≡ reason number n f Accepts → reason number n f next ≡ next
+  reason_on = go (ltb (lowest n f) n)
+    where
+      go : (b : Bool) → Accepts ≡ cond b (Rejects number (lowest n f)) Accepts → cond b (Rejects number (lowest n f)) next ≡ next
+      go true h = absurd (accepts_not_rejects _ _ h)
+      go false h = refl
 
-    pub two_none : w ≡ 0 → verdict_of t closed ≡ after_two t closed
-    unfolding verdict_of
-    two_none none = reason_none 2 _ _ _ (place_none _ _ _ g.good.few_events two_word none)
+  reason_here : (r p : ℕ) → Rejects r p ≡ reason number n f Accepts → Rejects r p ≡ reason number n f next
+  reason_here r p = go (ltb (lowest n f) n)
+    where
+      go : (b : Bool) → Rejects r p ≡ cond b (Rejects number (lowest n f)) Accepts → Rejects r p ≡ cond b (Rejects number (lowest n f)) next
+      go true h = h
+      go false h = absurd (accepts_not_rejects r p (sym h))
 
-    pub two_at : (w ≡ 0 → ⊥) → (r : ℕ) → r ≡ lowest_of w → Rejects 2 r ≡ verdict_of t closed
-    unfolding verdict_of
-    two_at filled r at = sym (reason_at 2 _ _ _ _ (place_at _ _ _ g.good.few_events two_word r at filled))
+-- what is said of a reason, known by its events or by the events that its relations lead to
+abbrev pub SaidOfEvents : ℕ → ℕ → (Table → CheckAnswer) → Type 0
+SaidOfEvents number set said = (t : Table) (n : ℕ) (f : ℕ → Bool) → set ≡ set_of n f → said t ≡ reason number n f Accepts
 
-  -- a reason that lies with a relation
-  lies_at : (number w : ℕ) (f : ℕ → Bool) (next : CheckAnswer) → Ends t f w → (w ≡ 0 → ⊥) → (r : ℕ) → r ≡ lowest t.count f
-      → Rejects number r ≡ reason number t.count f next
-  lies_at number w f next ends filled r at = sym (reason_at number _ _ _ _ (sym at, rw at (ends_some t g.good f w ends filled)))
+abbrev pub SaidOfRelations : ℕ → ℕ → ℕ → ℕ → ℕ → (Table → CheckAnswer) → Type 0
+SaidOfRelations number ends kinds lefts rights said =
+    (t : Table) (f : ℕ → Bool) → GoodTable t → Ends t f ends → first_reason t kinds lefts rights ≡ lowest t.count f
+    → said t ≡ reason number t.count f Accepts
 
-  module _ (w : ℕ) (led-to : Led rows 1 closed w) where
-    three_ends : Ends t (waiting t closed) w
-    three_ends = waiting_ends t g.good rows g.made closed w led-to
+-- nothing is found, or this is
+abbrev pub accepts : Table → CheckAnswer
+accepts t = Accepts
 
-    pub three_none : w ≡ 0 → after_two t closed ≡ after_three t closed
-    three_none none = reason_none 3 _ _ _ (ends_none t _ w three_ends none)
+abbrev pub rejects : Finding → Table → CheckAnswer
+rejects finding t = let rejection = rejection_by t finding in Rejects (reason_number rejection.reason) rejection.place
 
-    pub three_at : (w ≡ 0 → ⊥) → (r : ℕ) → r ≡ first_reason t 2 closed every_event → Rejects 3 r ≡ after_two t closed
-    three_at filled r at = lies_at 3 w _ _ three_ends filled r (at ∙ first_waiting t g.good closed)
+-- Each reason after the first in turn: it does not apply and what is left is said, or this is the verdict.
+module _ {t : Table} {rows : Rows} (of : RowsOf t rows) {closed : ℕ} (fits : closed < 2 ^ t.events) where
+  two_word : (w : ℕ) → ((x : ℕ) → has w x ≡ (has closed x && not (has rows.head.causable x))) → w ≡ set_of t.events (uncausable t closed)
+  two_word w made = uncausable_word t closed fits w (λ x. made x ∙ ap (λ (h : Head). has closed x && not (has h.causable x)) of.headed)
 
-  module _ (r : ℕ) (at : r ≡ lowest 64 (on_cycle t closed)) where
-    pub four_none : 64 ≤ r → after_three t closed ≡ after_four t closed
-    four_none none =
-        reason_none 4 _ _ _
-        (sought_none t.events 64 r (on_cycle t closed) (on_cycle t closed) (cyclic_exists t closed g.fits) (λ x b. refl) at g.good.few_events none)
+  pub two_none : (w : ℕ) → ((x : ℕ) → has w x ≡ (has closed x && not (has rows.head.causable x))) → SaidOfEvents 2 w accepts
+      → verdict_of t closed ≡ after_two t closed
+  unfolding verdict_of
+  two_none w made said = reason_on 2 _ _ _ (said t t.events (uncausable t closed) (two_word w made))
 
-    pub four_at : r < 64 → Rejects 4 r ≡ after_three t closed
-    four_at small =
-        sym (reason_at 4 _ _ _ _ (sought_at t.events 64 r (on_cycle t closed) (on_cycle t closed) (cyclic_exists t closed g.fits) (λ x b. refl) at small))
+  pub two_at : (w : ℕ) → ((x : ℕ) → has w x ≡ (has closed x && not (has rows.head.causable x))) → (finding : Finding)
+      → SaidOfEvents 2 w (rejects finding) → rejects finding t ≡ verdict_of t closed
+  unfolding verdict_of
+  two_at w made finding said = reason_here 2 _ _ _ _ _ (said t t.events (uncausable t closed) (two_word w made))
+
+  pub three_none : (w : ℕ) → Led rows.words 1 closed w → SaidOfRelations 3 w 2 closed every_event accepts → after_two t closed ≡ after_three t closed
+  three_none w led-to said =
+      reason_on 3 _ _ _ (said t (waiting t closed) of.good (waiting_ends t of.good rows.words of.derived closed w led-to) (first_waiting t of.good closed))
+
+  pub three_at : (w : ℕ) → Led rows.words 1 closed w → (finding : Finding) → SaidOfRelations 3 w 2 closed every_event (rejects finding)
+      → rejects finding t ≡ after_two t closed
+  three_at w led-to finding said =
+      reason_here 3 _ _ _ _ _
+      (said t (waiting t closed) of.good (waiting_ends t of.good rows.words of.derived closed w led-to) (first_waiting t of.good closed))
+
+  pub four_none : None ≡ place 64 (lowest 64 (on_cycle t closed)) → after_three t closed ≡ after_four t closed
+  four_none at =
+      reason_none 4 _ _ _
+      (sought_none t.events 64 _ (on_cycle t closed) (on_cycle t closed) (cyclic_exists t closed fits) (λ x b. refl) refl of.good.few_events
+      (place_past 64 _ at))
+
+  pub four_at : (r : ℕ) → Some r ≡ place 64 (lowest 64 (on_cycle t closed)) → Rejects 4 r ≡ after_three t closed
+  four_at r at =
+      let there = place_in 64 _ r at in
+      sym (reason_at 4 _ _ _ _
+      (sought_at t.events 64 r (on_cycle t closed) (on_cycle t closed) (cyclic_exists t closed fits) (λ x b. refl) there.0 there.1))
 
   module _ (milestones bounded eventual : ℕ)
-      (led-to : Led rows 2 closed milestones) (soon : Led rows 3 closed bounded) (later : Led rows 4 closed eventual)
+      (led-to : Led rows.words 2 closed milestones) (soon : Led rows.words 3 closed bounded) (later : Led rows.words 4 closed eventual)
     where
       five_ends : Ends t (reopening t closed) (bit_and (bit_or bounded eventual) milestones)
-      five_ends = reopening_ends t g.good rows g.made closed milestones bounded eventual led-to soon later
+      five_ends = reopening_ends t of.good rows.words of.derived closed milestones bounded eventual led-to soon later
 
-      pub five_none : bit_and (bit_or bounded eventual) milestones ≡ 0 → after_four t closed ≡ after_five t closed
-      five_none none = reason_none 5 _ _ _ (ends_none t _ _ five_ends none)
+      five_first : first_reason t 4 closed milestones ≡ lowest t.count (reopening t closed)
+      five_first = first_reopening t of.good rows.words of.derived closed milestones led-to
 
-      pub five_at : (bit_and (bit_or bounded eventual) milestones ≡ 0 → ⊥) → (r : ℕ) → r ≡ first_reason t 4 closed milestones
-          → Rejects 5 r ≡ after_four t closed
-      five_at filled r at = lies_at 5 _ _ _ five_ends filled r (at ∙ first_reopening t g.good rows g.made closed milestones led-to)
+      pub five_none : SaidOfRelations 5 (bit_and (bit_or bounded eventual) milestones) 4 closed milestones accepts
+          → after_four t closed ≡ after_five t closed
+      five_none said = reason_on 5 _ _ _ (said t (reopening t closed) of.good five_ends five_first)
 
-  module _ (w : ℕ) (led-to : Led rows 5 closed w) where
-    six_ends : Ends t (reviving t closed) (bit_and w closed)
-    six_ends = reviving_ends t g.good rows g.made closed w led-to
+      pub five_at : (finding : Finding) → SaidOfRelations 5 (bit_and (bit_or bounded eventual) milestones) 4 closed milestones (rejects finding)
+          → rejects finding t ≡ after_four t closed
+      five_at finding said = reason_here 5 _ _ _ _ _ (said t (reopening t closed) of.good five_ends five_first)
 
-    pub six_none : bit_and w closed ≡ 0 → after_five t closed ≡ Accepts
-    six_none none = reason_none 6 _ _ _ (ends_none t _ _ six_ends none)
+  pub six_is : (w : ℕ) → Led rows.words 5 closed w → (said : Table → CheckAnswer) → SaidOfRelations 6 (bit_and w closed) 8 closed closed said
+      → said t ≡ after_five t closed
+  six_is w led-to said told =
+      told t (reviving t closed) of.good (reviving_ends t of.good rows.words of.derived closed w led-to) (first_reviving t of.good closed)
 
-    pub six_at : (bit_and w closed ≡ 0 → ⊥) → (r : ℕ) → r ≡ first_reason t 8 closed closed → Rejects 6 r ≡ after_five t closed
-    six_at filled r at = lies_at 6 _ _ _ six_ends filled r (at ∙ first_reviving t g.good closed)
+-- and the first, before them
+module _ (t : Table) (m : Marking) (good : GoodTable t) (set : ℕ) (made : set ≡ set_of t.events (unreportable t m)) where
+  pub one_none : SaidOfEvents 1 set accepts → verdict t m ≡ verdict_of t (closure t m)
+  unfolding verdict verdict_of
+  one_none said = reason_on 1 _ _ _ (said t t.events (unreportable t m) made)
+
+  pub one_at : (finding : Finding) → SaidOfEvents 1 set (rejects finding) → rejects finding t ≡ verdict t m
+  unfolding verdict verdict_of
+  one_at finding said = reason_here 1 _ _ _ _ _ (said t t.events (unreportable t m) made)

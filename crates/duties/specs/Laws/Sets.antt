@@ -1,7 +1,7 @@
 -- What the sets tell of the events of the marking that they stand for. Assumes nothing.
 use Rattle.std.specs.Prelude.{◌≡◌, Bool, ◌&&◌, List, ℕ, ◌<◌, get_or}
 use Rattle.std.proofs.Math.Path.{ap}
-use Rattle.std.proofs.Common.{sym}
+use Rattle.std.proofs.Common.{sym, subst}
 use Rattle.std.proofs.Math.Bool.{not}
 use Rattle.rules.specs.declared.Record.{Record}
 use Rattle.rules.specs.declared.Marking.{Marking}
@@ -19,6 +19,11 @@ is_waiting m x = (record_of m x).included && (record_of m x).pending
 
 abbrev pub is_owed : Marking → ℕ → Bool
 is_owed m x = (record_of m x).pending && (record_of m x).bounded
+
+-- the words of so many events, by another name for the count
+pub stands_of : {n k : ℕ} {tail : List Record} {clock : ℕ} {sets columns : List ℕ} {m : Marking} → n ≡ k
+    → Stands n tail clock sets columns m → Stands k tail clock sets columns m
+stands_of {tail = tail} {clock} {sets} {columns} {m} e stands = subst (λ (n : ℕ). Stands n tail clock sets columns m) e stands
 
 module _ (n : ℕ) (tail : List Record) (clock : ℕ) (sets columns : List ℕ) (m : Marking) (stands : Stands n tail clock sets columns m) (x : ℕ) (b : x < n) where
   here : record_in clock sets columns x ≡ record_of m x

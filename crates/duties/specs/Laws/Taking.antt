@@ -10,29 +10,31 @@ use Rattle.std.proofs.lemmas.List.{set_at}
 use Rattle.rules.specs.declared.Table.{Table}
 use Rattle.rules.specs.declared.Record.{Record}
 use Rattle.rules.specs.declared.Marking.{Marking}
-use Rattle.rules.specs.declared.GuardedAnswer.{GuardedAnswer}
+use Rattle.rules.specs.Answers.{GuardedAnswer}
 use Rattle.rules.specs.Counting.{lowest}
-use Rattle.rules.specs.EventSet.{has, lowest_of}
+use Rattle.rules.specs.EventSet.{has}
 use Rattle.rules.specs.Holds.{record_of}
 use Rattle.rules.specs.Effect.{effect}
-use Rattle.rules.specs.Time.{time}
-use Rattle.rules.specs.Guard.{ready, order_of, taken, taken_all, executed_of, caused, guarded, needed}
+use Rattle.rules.specs.Guard.{ready, goes_ahead, order_of, order, taken, taken_all, executed_of, caused, guarded, needed}
 use Rattle.rules.proofs.Laws.Tests.{both}
-use Rattle.rules.proofs.Laws.Counting.{lowest_none}
+use Rattle.rules.proofs.Laws.Counting.{lowest_is, lowest_none}
 use Rattle.rules.proofs.Laws.EventSet.{has_zero}
 use Rattle.rules.proofs.Laws.Needed.{needed_fits}
 use Rattle.rules.proofs.Laws.Order.{order_none, order_more, order_end, order_empty, order_length}
 use Rattle.rules.specs.Shapes.Good.{GoodTable}
 use Rattle.rules.proofs.Laws.Widened.{has_below}
-use Rattle.acts.specs.Derived.{firm_set, Derived, Linked}
+use Rattle.acts.specs.declared.table_words.TableWords.{TableWords}
+use Rattle.acts.specs.declared.marking_words.MarkingWords.{MarkingWords}
+use Rattle.acts.specs.Derived.{Derived}
+use Rattle.acts.specs.Events.{Taken}
+use Rattle.acts.specs.Words.{WordsOf, StandFor}
 use Rattle.duties.specs.Inhibition.{ready_in}
 use Rattle.acts.specs.Stands.{Stands}
 use Rattle.duties.specs.AtStart.{AtStart}
-use Rattle.duties.specs.Taking.{answered, noted, taken_one, carried_on, state_of, TakenOne}
+use Rattle.duties.specs.Taking.{answered, noted, taken_one, carried_on, state_of}
 use Rattle.acts.specs.Laws.Stands.{stands_events, tick_stands}
 use Rattle.duties.specs.Laws.Followed.{ready_is}
-use Rattle.duties.specs.Laws.Ready.{Ready, ready_lowest}
-use Rattle.duties.specs.Laws.Reasons.{sought_at}
+use Rattle.duties.specs.Laws.Ready.{Ready}
 
 -- The next ready event, by words.
 module _ (t : Table) (good : GoodTable t) (rows : List ℕ) (made : Derived t t.count rows) {set untaken word : ℕ} (r : Ready rows set untaken word)
@@ -44,19 +46,33 @@ module _ (t : Table) (good : GoodTable t) (rows : List ℕ) (made : Derived t t.
   next_none none =
       lowest_none (ready t untaken) t.events (λ y b. sym (same y b) ∙ sym (r.told y) ∙ ap (λ (w : ℕ). has w y) none ∙ has_zero y)
 
-  pub next_at : (e : ℕ) → e ≡ lowest_of word → e < 64 → (lowest t.events (ready t untaken) ≡ e) × (e < t.events)
-  next_at e at small =
-      sought_at t.events 64 e (ready_in rows untaken) (ready t untaken) (λ x h. has_below t.events untaken x fits (both (has untaken x) _ h).0) same
-      (ready_lowest r e at) small
+  pub next_at : {e rest : ℕ} → Taken word e rest → (lowest t.events (ready t untaken) ≡ e) × (e < t.events)
+  next_at {e} next =
+      let here = sym (r.told e) ∙ next.inside in
+      let exists = has_below t.events untaken e fits (both (has untaken e) _ here).0 in (
+        lowest_is (ready t untaken) t.events e exists (sym (same e exists) ∙ here)
+            (λ y l. sym (same y (omega (arith, l, exists))) ∙ sym (r.told y) ∙ next.first y l),
+        exists,
+      )
 
--- One event is taken, by whether it goes ahead.
+-- One event is taken: executed if it goes ahead ..
+module _ (t : Table) (m : Marking) (e : ℕ) where
+  pub taken_goes : goes_ahead t m e ≡ true → effect t m e ≡ taken t m e
+  unfolding taken
+  taken_goes h = rw h
+
+  pub taken_stays : goes_ahead t m e ≡ false → m ≡ taken t m e
+  unfolding taken
+  taken_stays h = rw h
+
+-- .. and then noted
 module _ (t : Table) (m : Marking) (list : List ℕ) (count e : ℕ) where
-  pub taken_in : (record_of m e).included ≡ true → state_of (effect t m e) (set list count e) (count + 1) ≡ taken_one t (state_of m list count) e
-  unfolding taken_one
+  pub taken_in : goes_ahead t m e ≡ true → state_of (taken t m e) (set list count e) (count + 1) ≡ taken_one t (state_of m list count) e
+  unfolding taken taken_one
   taken_in h = rw h
 
-  pub taken_out : (record_of m e).included ≡ false → state_of m list count ≡ taken_one t (state_of m list count) e
-  unfolding taken_one
+  pub taken_out : goes_ahead t m e ≡ false → state_of (taken t m e) list count ≡ taken_one t (state_of m list count) e
+  unfolding taken taken_one
   taken_out h = rw h
 
 -- The state that is carried on.
@@ -139,95 +155,75 @@ module _ (t : Table) (before : List ℕ) where
       let put = ap (λ (s : GuardedAnswer). s.caused) all in
       (ap (λ (s : GuardedAnswer). s.marking) all, record { counted = ap (λ (s : GuardedAnswer). s.count) all; put = put })
 
--- The words that are lent are a table's of n events, firm or not, and the set is one of its events.
-pub record Lent (t : Table) (rows links : List ℕ) (n needed firm : ℕ) : Type 0 where
-  pub good : GoodTable t
-  pub derived : Derived t t.count rows
-  pub linked : Linked t t.count rows links
-  pub sized : t.events ≡ n
-  pub fits : needed < 2 ^ t.events
-  pub firmly : firm ≡ firm_set t.firm
-
-pub lent : {t : Table} {rows links : List ℕ} {n needed firm : ℕ} → GoodTable t → Derived t t.count rows → Linked t t.count rows links
-    → t.events ≡ n → firm ≡ firm_set t.firm → needed < 2 ^ n → Lent t rows links n needed firm
-lent good derived linked sized firmly fits = record { good = good; derived = derived; linked = linked; sized = sized; fits = rw sized fits; firmly = firmly }
-
 -- the end: the words stand for the marking after the whole order, and its executed events are told
-abbrev pub TakenAll : Table → ℕ → List Record → ℕ → ℕ → Marking → List ℕ → List ℕ → List ℕ → List ℕ → ℕ → Type 0
-TakenAll t n tail clock needed m before sets columns list count =
-    Stands n tail clock sets columns (taken_all t m (order_of t n needed)) × AtStart (executed_of t m (order_of t n needed)) before count list
+abbrev pub TakenAll : Table → List Record → ℕ → Marking → List ℕ → MarkingWords → List ℕ → ℕ → Type 0
+TakenAll t tail needed m before marking list count =
+    StandFor t.events tail marking (taken_all t m (order_of t t.events needed))
+    × AtStart (executed_of t m (order_of t t.events needed)) before count list
 
 -- on the way: the words stand for a marking from which what is left leads to the same end as from m
-abbrev pub Underway : Table → List Record → ℕ → ℕ → Marking → List ℕ → List ℕ → List ℕ → List ℕ → ℕ → ℕ → ℕ → Type 0
-Underway t tail clock needed m before sets columns list count untaken i =
-    (now : Marking) × (Stands t.events tail clock sets columns now) × Onward t needed (state_of m before 0) (state_of now list count) untaken i
+abbrev pub Underway : Table → List Record → ℕ → Marking → List ℕ → MarkingWords → List ℕ → ℕ → ℕ → ℕ → Type 0
+Underway t tail needed m before marking list count untaken i =
+    (now : Marking) × (StandFor t.events tail marking now) × Onward t needed (state_of m before 0) (state_of now list count) untaken i
 
 -- the loop that takes the events: what is true of any words, and what is besides of those of a table and a marking
-pub record Taking (rows links : List ℕ) (clock : ℕ) (first-sets first-columns before : List ℕ) (n needed firm : ℕ)
-    (sets columns list : List ℕ) (untaken word count i : ℕ)
+pub record Taking (table : TableWords) (first : MarkingWords) (before : List ℕ) (needed : ℕ) (marking : MarkingWords) (list : List ℕ)
+    (untaken word count i : ℕ)
     : Type 0 where
-  pub upto : i ≤ n
   pub few : count ≤ i
   pub less : untaken ≤ needed
-  pub fits : word < 2 ^ 64
-  pub readied : Ready rows needed untaken word
-  pub onward : (t : Table) (tail : List Record) (m : Marking) → Lent t rows links n needed firm → Stands n tail clock first-sets first-columns m
-      → Underway t tail clock needed m before sets columns list count untaken i
+  pub readied : Ready table.rows.words needed untaken word
+  pub clock : marking.clock ≡ first.clock
+  pub onward : (t : Table) (tail : List Record) (m : Marking) → WordsOf t table → needed < 2 ^ t.events → StandFor t.events tail first m
+      → Underway t tail needed m before marking list count untaken i
 
-module _ {t : Table} {rows links : List ℕ} {n needed firm : ℕ} (l : Lent t rows links n needed firm)
-    (tail : List Record) (clock : ℕ) (m : Marking) (before : List ℕ)
-  where
-    pub underway_start : (sets columns : List ℕ) → Stands n tail clock sets columns m → Underway t tail clock needed m before sets columns before 0 needed 0
-    underway_start sets columns stands = (m, rw l.sized stands, onward_start t needed (state_of m before 0))
+module _ {t : Table} {table : TableWords} (of : WordsOf t table) (tail : List Record) (needed : ℕ) (m : Marking) (before : List ℕ) where
+  pub underway_start : (marking : MarkingWords) → StandFor t.events tail marking m → Underway t tail needed m before marking before 0 needed 0
+  underway_start marking stands = (m, stands, onward_start t needed (state_of m before 0))
 
-    module _ (sets columns list : List ℕ) (count untaken i : ℕ) (u : Underway t tail clock needed m before sets columns list count untaken i) where
-      pub underway_more : (e : ℕ) → (lowest t.events (ready t untaken) ≡ e) × (e < t.events) → i < n
-          → (later-sets later-columns later-list : List ℕ) (later-count : ℕ)
-          → ((now : Marking) → Stands t.events tail clock sets columns now
-          → TakenOne t now e list count later-list later-count (Stands t.events tail clock later-sets later-columns))
-          → Underway t tail clock needed m before later-sets later-columns later-list later-count (untaken - 2 ^ e) (i + 1)
-      underway_more e at b later-sets later-columns later-list later-count takes =
-          let next = takes u.0 u.1 in
-          (next.0, next.1, onward_more t needed (state_of m before 0) u.2 e at.0 at.1 (rw l.sized b) next.2)
+  module _ (marking : MarkingWords) (list : List ℕ) (count untaken i : ℕ) (u : Underway t tail needed m before marking list count untaken i) where
+    pub underway_more : (e : ℕ) → (lowest t.events (ready t untaken) ≡ e) × (e < t.events) → i < t.events
+        → (later : MarkingWords) (later-list : List ℕ) (later-count : ℕ)
+        → ((now : Marking) → StandFor t.events tail marking now → StandFor t.events tail later (taken t now e)
+        × (state_of (taken t now e) later-list later-count ≡ taken_one t (state_of now list count) e))
+        → Underway t tail needed m before later later-list later-count (untaken - 2 ^ e) (i + 1)
+    underway_more e at b later later-list later-count takes =
+        let next = takes u.0 u.1 in
+        (taken t u.0 e, next.0, onward_more t needed (state_of m before 0) u.2 e at.0 at.1 b next.1)
 
-      ended : order_of t (t.events - i) untaken ≡ [] → length before ≡ 64 → TakenAll t n tail clock needed m before sets columns list count
-      ended none room =
-          let done = carried_is t before m u.0 list count needed (rw room l.good.few_events) (onward_end t needed (state_of m before 0) u.2 none) in
-          subst (λ (k : ℕ). TakenAll t k tail clock needed m before sets columns list count) l.sized
-          (subst (Stands t.events tail clock sets columns) done.0 u.1, done.1)
+    ended : order_of t (t.events - i) untaken ≡ [] → length before ≡ 64 → TakenAll t tail needed m before marking list count
+    ended none room =
+        let done = carried_is t before m u.0 list count needed (rw room of.rows.good.few_events) (onward_end t needed (state_of m before 0) u.2 none) in
+        (subst (StandFor t.events tail marking) done.0 u.1, done.1)
 
-      pub underway_none : lowest t.events (ready t untaken) ≡ t.events → length before ≡ 64
-          → TakenAll t n tail clock needed m before sets columns list count
-      underway_none q = ended (order_none t untaken (t.events - i) q)
+    pub underway_none : lowest t.events (ready t untaken) ≡ t.events → length before ≡ 64 → TakenAll t tail needed m before marking list count
+    underway_none q = ended (order_none t untaken (t.events - i) q)
 
-      pub underway_end : n ≤ i → length before ≡ 64 → TakenAll t n tail clock needed m before sets columns list count
-      underway_end b = ended (let e : t.events - i ≡ 0 = omega (arith, l.sized) in ap (λ (k : ℕ). order_of t k untaken) e ∙ order_end t untaken)
+    pub underway_end : t.events ≤ i → length before ≡ 64 → TakenAll t tail needed m before marking list count
+    underway_end b = ended (let e : t.events - i ≡ 0 = omega arith in ap (λ (k : ℕ). order_of t k untaken) e ∙ order_end t untaken)
 
-pub needed_small : (t : Table) (n : ℕ) → t.events ≡ n → GoodTable t → (tail : List Record) (clock : ℕ) (sets columns : List ℕ) (m : Marking)
-    → Stands n tail clock sets columns m → {untaken : ℕ} → untaken ≡ needed t m → untaken < 2 ^ n
-needed_small t n sized good tail clock sets columns m stands {untaken} q =
-    subst (λ (k : ℕ). untaken < 2 ^ k) sized (rw q (needed_fits t good m (stands_events n tail clock sets columns m stands ∙ sym sized)))
+pub needed_small : (t : Table) (tail : List Record) (marking : MarkingWords) (m : Marking) → GoodTable t → StandFor t.events tail marking m
+    → {untaken : ℕ} → untaken ≡ needed t m → untaken < 2 ^ t.events
+needed_small t tail marking m good stands {untaken} q =
+    rw q (needed_fits t good m (stands_events t.events tail marking.clock marking.sets marking.columns m stands))
 
--- Then one tick passes: what the definition of the guarded tick says.
-module _ (t : Table) (n : ℕ) (sized : t.events ≡ n) (tail : List Record) (clock : ℕ) (m : Marking) (before : List ℕ)
-    {untaken : ℕ} (is-needed : untaken ≡ needed t m)
-  where
-    pub guarded_is : (sets columns list : List ℕ) (count : ℕ)
-        → TakenAll t n tail clock untaken m before sets columns list count
-        → Stands n tail (clock + 1) sets columns (guarded t m) × AtStart (caused t m) before count list
+-- What is needed is taken, and then one tick passes: what the definition of the guarded tick says.
+module _ (t : Table) (tail : List Record) (m : Marking) (before : List ℕ) {untaken : ℕ} (is-needed : untaken ≡ needed t m) (marking : MarkingWords) where
+  -- with nothing needed nothing is taken
+  pub none_taken : untaken ≡ 0 → StandFor t.events tail marking m → TakenAll t tail untaken m before marking before 0
+  unfolding taken_all executed_of
+  none_taken none stands = rw (none, order_empty t t.events) (stands, record { counted = refl; put = refl })
+
+  module _ (list : List ℕ) (count : ℕ) (all : TakenAll t tail untaken m before marking list count) where
+    pub taken_is : StandFor t.events tail marking (taken_all t m (order t m))
+    taken_is = subst (λ (l : List ℕ). StandFor t.events tail marking (taken_all t m l)) (ap (order_of t t.events) is-needed) all.0
+
+    pub guarded_is : Stands t.events tail (marking.clock + 1) marking.sets marking.columns (guarded t m) × AtStart (caused t m) before count list
     unfolding guarded caused
-    guarded_is sets columns list count taken =
-        subst (λ (l : List ℕ). Stands n tail (clock + 1) sets columns (time (taken_all t m l)) × AtStart (executed_of t m l) before count list)
-        (ap (λ (k : ℕ). order_of t k untaken) (sym sized) ∙ ap (order_of t t.events) is-needed)
-        (tick_stands n tail clock sets columns (taken_all t m (order_of t n untaken)) taken.0, taken.1)
-
-    -- with nothing needed nothing is taken
-    pub guarded_none : untaken ≡ 0 → (sets columns : List ℕ) → Stands n tail clock sets columns m
-        → Stands n tail (clock + 1) sets columns (guarded t m) × AtStart (caused t m) before 0 before
-    unfolding taken_all executed_of
-    guarded_none none sets columns stands =
-        guarded_is sets columns before 0
-        (rw (none, order_empty t n) (stands, record { counted = refl; put = refl }))
+    guarded_is = (
+      tick_stands t.events tail marking.clock marking.sets marking.columns (taken_all t m (order t m)) taken_is,
+      subst (λ (l : List ℕ). AtStart (executed_of t m l) before count list) (ap (order_of t t.events) is-needed) all.1,
+    )
 
 -- as an answer: the list was 0 at every place
 abbrev zeros : ℕ → List ℕ

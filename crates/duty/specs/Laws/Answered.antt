@@ -1,94 +1,89 @@
--- From images that were read to the promise: a refused reading leaves everything, and else the rule's own answer is handed back. Assumes nothing.
-use Rattle.std.specs.Prelude.{◌≡◌, List, ℕ}
-use Rattle.std.proofs.Common.{◌∙◌, sym, ne_eqb}
-use Rattle.std.proofs.Math.Path.{ap, subst}
+-- What is answered of images: a refused reading comes first and leaves everything; else the rule's own answer is told. Assumes nothing.
+use Rattle.std.specs.Prelude.{◌≡◌, refl, List, [], ◌++◌, ℕ, zero, suc, length, Result, Ok, Err, IfOk, IsErr}
+use Rattle.std.proofs.Common.{◌∙◌, sym, ap, subst, ne_eqb, arith}
 use Rattle.rules.specs.declared.Table.{Table}
 use Rattle.rules.specs.declared.Marking.{Marking}
-use Rattle.rules.specs.declared.MarkingAnswer.{MarkingAnswer}
+use Rattle.rules.specs.Answers.{MarkingAnswer}
+use Rattle.rules.specs.declared.refusal.Refusal.{Refusal}
 use Rattle.rules.specs.Numbers.{◌else◌, done}
+use Rattle.rules.specs.Results.{refusal_number, number_of, value_or, as_marking}
 use Rattle.rules.specs.Judge.{judged}
+use Rattle.rules.specs.Image.{marking_image}
 use Rattle.rules.specs.Images.{table_of, marking_of, images_number, on, put_back}
 use Rattle.rules.proofs.Laws.Numbers.{else_done, else_refused}
-use Rattle.duty.specs.declared.images.Images.{Images}
-use Rattle.duty.specs.Reading.{images}
-use Rattle.duty.specs.Performing.{Fills}
+use Rattle.rules.proofs.Laws.Results.{refused_number}
+use Rattle.rules.proofs.Laws.Written.{number_done}
+use Rattle.duty.specs.Reading.{Refuses}
+use Rattle.duty.specs.Performing.{Fills, written_number, written}
 use Rattle.duty.specs.Laws.Images.{read_judged}
-use Rattle.duty.specs.Laws.Kept.{fills}
+use Rattle.duty.specs.Laws.Kept.{fills, filled}
 
 -- a refusal leaves what was there
 pub left : {A : Type 0} (number : ℕ) (after before : A) → (number ≡ 0 → ⊥) → before ≡ done number after before
 left number after before h = rw (ne_eqb number 0 h)
 
--- and what is done is told
-pub told_value : {A B : Type 0} (value : A → B) {answer told : A} → answer ≡ told → {number : ℕ} → number ≡ 0 → (before : B)
-    → value answer ≡ done number (value told) before
-told_value value e h before = ap value e ∙ rw h
+pub refused_result : {A : Type 0} (result : Result A Refusal) → IsErr result → number_of result ≡ 0 → ⊥
+refused_result (Ok a) h z = cc
+refused_result (Err r) h z = refused_number r z
 
-module _ (table marking : List ℕ) (read : Images) (read_is : read ≡ images table marking) where
-  number_is : read.number ≡ images_number table marking
-  unfolding images
-  number_is = ap (λ (i : Images). i.number) read_is
+-- numbers and a place for each, told where nothing refuses
+pub placed : (answer : Result (List ℕ) Refusal) (says : List ℕ) → IfOk answer (λ l. l ≡ says) → (short : ℕ) {number : ℕ}
+    → number ≡ (number_of answer else short) → (rest before : List ℕ)
+    → done number (value_or [] answer ++ rest) before ≡ done number (says ++ rest) before
+placed (Ok l) says h short {number} n rest before = ap {B = List ℕ} (λ x. done number (x ++ rest) before) h
+placed (Err r) says h short {number} n rest before =
+    let refused : number ≡ 0 → ⊥ = λ z. refused_number r (sym (else_refused short (refused_number r)) ∙ sym n ∙ z) in
+    sym (left number rest before refused) ∙ left number (says ++ rest) before refused
 
-  -- the reading is refused
-  pub not_read : (read.number ≡ 0 → ⊥) → images_number table marking ≡ 0 → ⊥
-  not_read h z = h (number_is ∙ z)
+module _ (table marking : List ℕ) where
+  -- by how reading ends
+  pub by_reading : {P : Type 0} → (images_number table marking ≡ 0 → P) → ((images_number table marking ≡ 0 → ⊥) → P) → P
+  by_reading {P = P} read refused = go (images_number table marking) refl
+    where
+      go : (number : ℕ) → images_number table marking ≡ number → P
+      go zero e = read e
+      go (suc number) e = refused (λ z. omega (arith, e, z))
 
-  pub unread : (own : ℕ) → (read.number ≡ 0 → ⊥) → read.number ≡ (images_number table marking else own)
-  unread own h = number_is ∙ sym (else_refused own (not_read h))
+  -- a list that is lent with the images holds what the rule says, or is left
+  pub listed : {number : ℕ} (own : ℕ) {said put before : List ℕ} → number ≡ (images_number table marking else own) → said ≡ done own said before
+      → (images_number table marking ≡ 0 → put ≡ said) → ((images_number table marking ≡ 0 → ⊥) → put ≡ before) → put ≡ done number said before
+  listed {number} own {said} {put} {before} n twice read unread =
+      by_reading
+      (λ z. read z ∙ twice ∙ ap (λ (k : ℕ). done k said before) (sym (n ∙ else_done own z)))
+      (λ r. unread r ∙ left number said before (λ z. r (sym (else_refused own r) ∙ sym n ∙ z)))
 
-  -- an answer of what was read is the rule's of the images
-  pub ruled : {A : Type 0} (rule : Table → Marking → A) (answer : A) → answer ≡ rule read.table read.marking → answer ≡ on rule table marking
-  unfolding images
-  ruled rule answer e = e ∙ ap (λ (i : Images). rule i.table i.marking) read_is
+  -- an acting call: the new marking fills the buffer and is put back, or every byte is left
+  module _ (rule : Table → Marking → MarkingAnswer) (keeps : (t : Table) (m : Marking) → judged t m ≡ 0 → judged t (rule t m).marking ≡ 0)
+      (answer : Result Marking Refusal)
+      (unread : (images_number table marking ≡ 0 → ⊥) → Refuses (λ (r e : Refusal). e ≡ r) (images_number table marking) answer)
+      (ruled : images_number table marking ≡ 0 → as_marking (marking_of table marking) answer ≡ on rule table marking)
+      {number : ℕ} {put : List ℕ} (number_is : number ≡ written_number answer (length marking)) (put_is : put ≡ written answer marking) where
+    abbrev Acted : Type 0
+    Acted = (number ≡ (images_number table marking else (on rule table marking).number)) × (put ≡ put_back number (on rule table marking).marking marking)
 
-  -- the first of the two numbers
-  pub told_number : {A : Type 0} (number_of : A → ℕ) {answer told : A} → answer ≡ told → {number : ℕ} → number ≡ (read.number else number_of answer)
-      → number ≡ (images_number table marking else number_of told)
-  told_number {A} number_of {answer} e first =
-      first
-      ∙ ap (λ (n : ℕ). n else number_of answer) number_is
-      ∙ ap (λ (a : A). images_number table marking else number_of a) e
-
-  module _ (h : read.number ≡ 0) where
-    pub is_read : images_number table marking ≡ 0
-    is_read = sym number_is ∙ h
-
-    -- the number is the rule's own
-    pub own_number : (own : ℕ) → own ≡ (images_number table marking else own)
-    own_number own = sym (else_done own is_read)
-
-    pub judged_read : judged read.table read.marking ≡ 0
-    unfolding images
-    judged_read = subst (λ (i : Images). judged i.table i.marking ≡ 0) (sym read_is) (read_judged table marking is_read)
-
-    -- an answer with a marking that is judged 'done'
-    pub answer_fills : {A : Type 0} (rule : Table → Marking → A) (after : A → Marking) (answer : A) → answer ≡ on rule table marking
-        → ((t : Table) (m : Marking) → judged t m ≡ 0 → judged t (after (rule t m)) ≡ 0) → Fills (after answer) marking
-    answer_fills {A} rule after answer by keeps =
-        fills table marking (after answer) is_read
-        (subst (λ (a : A). judged (table_of table) (after a) ≡ 0) (sym by) (keeps (table_of table) (marking_of table marking) (read_judged table marking is_read)))
-
-    -- it is put back
-    pub answered : (told answer : MarkingAnswer) → answer ≡ told → (number : ℕ) (put : List ℕ)
-        → number ≡ answer.number → put ≡ put_back answer.number answer.marking marking
-        → (number ≡ (images_number table marking else told.number)) × (put ≡ put_back number told.marking marking)
-    answered told answer by number put n p = (
-      n ∙ ap (λ (a : MarkingAnswer). a.number) by ∙ own_number told.number,
-      p ∙ rw (← n) (ap (λ (a : MarkingAnswer). put_back number a.marking marking) by),
+    done_so : images_number table marking ≡ 0 → (a : Result Marking Refusal) → as_marking (marking_of table marking) a ≡ on rule table marking
+        → number ≡ written_number a (length marking) → put ≡ written a marking → Acted
+    done_so z (Ok m) e n p =
+        let after : m ≡ (on rule table marking).marking = ap (λ (a : MarkingAnswer). a.marking) e in
+        let whole : Fills m marking =
+        fills table marking m z
+        (subst (λ (k : Marking). judged (table_of table) k ≡ 0) (sym after) (keeps (table_of table) (marking_of table marking) (read_judged table marking z))) in
+        let granted : number ≡ 0 = n ∙ number_done m (length marking) whole.judged_done (omega (arith, whole.exact)) in (
+          granted ∙ ap (λ (a : MarkingAnswer). a.number) e ∙ sym (else_done _ z),
+          p ∙ filled m marking whole ∙ rw granted (ap marking_image after),
+        )
+    done_so z (Err r) e n p = (
+      n ∙ ap (λ (a : MarkingAnswer). a.number) e ∙ sym (else_done _ z),
+      p ∙ left number _ marking (λ y. refused_number r (sym n ∙ y)),
     )
 
--- an answer behind the reading: where that is done its marking fills the buffer, and it is put back
-module _ (table marking : List ℕ) (read : Images) (read_is : read ≡ images table marking) (rule : Table → Marking → MarkingAnswer)
-    {answer : MarkingAnswer} (e : answer ≡ rule read.table read.marking) where
-  by : answer ≡ on rule table marking
-  by = ruled table marking read read_is rule answer e
+    refused_so : (images_number table marking ≡ 0 → ⊥) → (u : Refuses (λ (r e : Refusal). e ≡ r) (images_number table marking) answer) → Acted
+    refused_so r u =
+        let same : number ≡ images_number table marking =
+        number_is ∙ ap (λ (a : Result Marking Refusal). written_number a (length marking)) u.is ∙ ap refusal_number u.made ∙ u.numbered in (
+          same ∙ sym (else_refused _ r),
+          put_is ∙ ap (λ (a : Result Marking Refusal). written a marking) u.is ∙ left number _ marking (λ z. r (sym same ∙ z)),
+        )
 
-  pub read_fills : ((t : Table) (m : Marking) → judged t m ≡ 0 → judged t (rule t m).marking ≡ 0) → read.number ≡ 0 → Fills answer.marking marking
-  read_fills keeps h = answer_fills table marking read read_is h rule (λ (a : MarkingAnswer). a.marking) answer by keeps
-
-  pub put_back_told : {number : ℕ} {put : List ℕ} → number ≡ (read.number else answer.number) → put ≡ put_back number answer.marking marking
-      → (number ≡ (images_number table marking else (on rule table marking).number)) × (put ≡ put_back number (on rule table marking).marking marking)
-  put_back_told {number} n p = (
-    told_number table marking read read_is (λ (a : MarkingAnswer). a.number) by n,
-    p ∙ ap (λ (a : MarkingAnswer). put_back number a.marking marking) by,
-  )
+    pub acted : Acted
+    acted = by_reading (λ z. done_so z answer (ruled z) number_is put_is) (λ r. refused_so r (unread r))

@@ -1,7 +1,7 @@
 -- The caused events of a guarded tick that is done: they are the answer's first places, and they fit where the buffer has a byte for each event.
 -- The numbers before the tick's own: reading, then the room. Assumes nothing.
-use Rattle.std.specs.Prelude.{◌≡◌, List, ◌++◌, ℕ, ◌≤◌, ◌-◌, take, drop, replicate}
-use Rattle.std.proofs.Common.{◌∙◌, arith}
+use Rattle.std.specs.Prelude.{◌≡◌, refl, false, List, ℕ, ◌≤◌, ◌-◌, take, replicate, Result, Ok, Err}
+use Rattle.std.proofs.Common.{◌∙◌, subst, arith}
 use Rattle.std.proofs.Math.Path.{ap, sym}
 use Rattle.std.proofs.Math.Dec.{ltb}
 use Rattle.std.proofs.Math.ListN.{length}
@@ -9,25 +9,34 @@ use Rattle.std.proofs.Math.Seq.{take_at}
 use borrow.Author.Tests.{ltb-false}
 use Rattle.rules.specs.declared.Table.{Table}
 use Rattle.rules.specs.declared.Marking.{Marking}
-use Rattle.rules.specs.declared.GuardedAnswer.{GuardedAnswer}
-use Rattle.rules.specs.Numbers.{◌if◌, ◌else◌, done, check_number}
+use Rattle.rules.specs.Answers.{GuardedAnswer}
+use Rattle.rules.specs.declared.answers.Guarded.{Guarded}
+use Rattle.rules.specs.declared.verdict.CheckError.{CheckError}
+use Rattle.rules.specs.declared.verdict.CheckError.TheVariants.{Refused, Rejected}
+use Rattle.rules.specs.Numbers.{◌else◌, done, check_number}
+use Rattle.rules.specs.Results.{as_guarded}
 use Rattle.rules.specs.Holds.{most_events}
+use Rattle.rules.specs.Judge.{judged}
 use Rattle.rules.specs.Check.{check}
 use Rattle.rules.specs.Guard.{caused, guarded_tick}
-use Rattle.rules.specs.Images.{table_of, images_number, guard_number}
-use Rattle.rules.proofs.Laws.Numbers.{if_done, both_done, else_done, else_refused}
+use Rattle.rules.specs.Images.{table_of, marking_of, images_number, on, guard_number}
+use Rattle.rules.proofs.Laws.Numbers.{if_done, both_done}
+use Rattle.rules.proofs.Laws.Judge.{good}
 use Rattle.rules.proofs.Laws.Taken.{caused_length}
-use Rattle.duty.specs.declared.images.Images.{Images}
-use Rattle.duty.specs.Reading.{images}
+use Rattle.duty.specs.Performing.{Fills}
+use Rattle.duty.specs.Telling.{check_number_of, reason_left, place_left}
+use Rattle.duty.specs.Laws.Images.{read_judged}
+use Rattle.duty.specs.Laws.Kept.{guarded_tick_judged, fills}
+use Rattle.duty.specs.Laws.Checked.{Early, granted, number_behind, told_behind, guarded_tells}
 
 module _ (t : Table) (m : Marking) (answer : GuardedAnswer) (answer-is : answer ≡ guarded_tick t m) (h : answer.number ≡ 0) where
-  granted : check_number (check t m) ≡ 0
+  accepted : check_number (check t m) ≡ 0
   unfolding guarded_tick
-  granted = sym (ap (λ (a : GuardedAnswer). a.number) answer-is) ∙ h
+  accepted = sym (ap (λ (a : GuardedAnswer). a.number) answer-is) ∙ h
 
   pub count_is : answer.count ≡ length (caused t m)
   unfolding guarded_tick
-  count_is = ap (λ (a : GuardedAnswer). a.count) answer-is ∙ rw granted
+  count_is = ap (λ (a : GuardedAnswer). a.count) answer-is ∙ rw accepted
 
   pub count_few : answer.count ≤ t.events
   count_few = omega (arith, count_is, caused_length t m)
@@ -35,43 +44,68 @@ module _ (t : Table) (m : Marking) (answer : GuardedAnswer) (answer-is : answer 
   pub caused_is : take answer.count answer.caused ≡ caused t m
   unfolding guarded_tick
   caused_is =
-      ap (take answer.count) (ap (λ (a : GuardedAnswer). a.caused) answer-is ∙ rw granted)
+      ap (take answer.count) (ap (λ (a : GuardedAnswer). a.caused) answer-is ∙ rw accepted)
       ∙ take_at (caused t m) (replicate (most_events - length (caused t m)) 0) answer.count (sym count_is)
 
-  -- as they are told
-  pub count_told : (before : ℕ) → answer.count ≡ done answer.number (length (caused t m)) before
-  count_told before = count_is ∙ rw h
+-- the tick of what was read, where there is room
+module _ (table marking : List ℕ) (bytes : ℕ) (answer : Result Guarded CheckError)
+    (refuses : (guard_number table marking bytes ≡ 0 → ⊥) → Early (guard_number table marking bytes) answer)
+    (ticked : guard_number table marking bytes ≡ 0 → as_guarded (marking_of table marking) answer ≡ on guarded_tick table marking) where
+  parts : guard_number table marking bytes ≡ 0 → (images_number table marking ≡ 0) × (ltb bytes (table_of table).events ≡ false)
+  unfolding guard_number
+  parts h = let both = both_done (images_number table marking) _ h in (both.0, if_done 13 _ both.1)
 
-  pub caused_told : (put before : List ℕ) → put ≡ take answer.count answer.caused ++ drop answer.count before
-      → put ≡ done answer.number (caused t m ++ drop (length (caused t m)) before) before
-  caused_told put before e =
-      e ∙ ap {B = List ℕ} (λ l. l ++ drop answer.count before) caused_is
-      ∙ ap (λ (n : ℕ). caused t m ++ drop n before) count_is
-      ∙ rw h
+  tick_number : guard_number table marking bytes ≡ 0 → check_number_of answer ≡ (on guarded_tick table marking).number
+  tick_number h = go answer (ticked h)
+    where
+      go : (a : Result Guarded CheckError) → as_guarded (marking_of table marking) a ≡ on guarded_tick table marking
+          → check_number_of a ≡ (on guarded_tick table marking).number
+      go (Ok guarded) e = ap (λ (g : GuardedAnswer). g.number) e
+      go (Err (Refused r)) e = ap (λ (g : GuardedAnswer). g.number) e
+      go (Err (Rejected rejection)) e = ap (λ (g : GuardedAnswer). g.number) e
 
--- reading, then the room
-module _ (table marking : List ℕ) (read : Images) (read_is : read ≡ images table marking) (bytes short number : ℕ)
-    (short-is : short ≡ 14 if ltb bytes read.table.events) (number_is : number ≡ (read.number else short)) where
-  before_tick : number ≡ guard_number table marking bytes
-  unfolding images guard_number
-  before_tick = number_is ∙ rw short-is (ap (λ (i : Images). i.number else 14 if ltb bytes i.table.events) read_is)
+  pub ticked_number : check_number_of answer ≡ (guard_number table marking bytes else (on guarded_tick table marking).number)
+  ticked_number = number_behind (guard_number table marking bytes) answer refuses _ tick_number
 
-  pub tick_away : (number ≡ 0 → ⊥) → guard_number table marking bytes ≡ 0 → ⊥
-  tick_away h z = h (before_tick ∙ z)
+  pub ticked_told : (before was : ℕ)
+      → (reason_left before answer ≡ done (guard_number table marking bytes) (on guarded_tick table marking).reason before)
+      × (place_left was answer ≡ done (guard_number table marking bytes) (on guarded_tick table marking).place was)
+  ticked_told =
+      told_behind (guard_number table marking bytes) answer refuses (on guarded_tick table marking).reason (on guarded_tick table marking).place
+      (λ h. guarded_tells (table_of table) (marking_of table marking) (read_judged table marking (parts h).0) answer (ticked h))
 
-  pub tick_refused : (own : ℕ) → (number ≡ 0 → ⊥) → number ≡ (guard_number table marking bytes else own)
-  tick_refused own h = before_tick ∙ sym (else_refused own (tick_away h))
+  -- where it is done
+  module _ (g : Guarded) (is : answer ≡ Ok g) where
+    done_before : guard_number table marking bytes ≡ 0
+    done_before = granted (guard_number table marking bytes) answer refuses g is
 
-  module _ (h : number ≡ 0) where
-    pub tick_done : guard_number table marking bytes ≡ 0
-    tick_done = sym before_tick ∙ h
+    done_is : as_guarded (marking_of table marking) (Ok g) ≡ on guarded_tick table marking
+    done_is = ap (as_guarded (marking_of table marking)) (sym is) ∙ ticked done_before
 
-    pub tick_read : read.number ≡ 0
-    tick_read = (both_done read.number short (sym number_is ∙ h)).0
+    pub caused_few : g.count ≤ 64
+    caused_few =
+        omega (
+          arith,
+          count_few (table_of table) (marking_of table marking) _ done_is refl,
+          (good _ _ (read_judged table marking (parts done_before).0)).table_good.few_events,
+        )
 
-    pub tick_room : (table_of table).events ≤ bytes
-    unfolding guard_number
-    tick_room = ltb-false bytes (table_of table).events (if_done 13 _ (both_done (images_number table marking) _ tick_done).1)
+    pub caused_room : g.count ≤ bytes
+    caused_room =
+        omega (
+          arith,
+          count_few (table_of table) (marking_of table marking) _ done_is refl,
+          ltb-false bytes (table_of table).events (parts done_before).1,
+        )
 
-    pub tick_number_lem : (told answer : GuardedAnswer) → answer ≡ told → answer.number ≡ (guard_number table marking bytes else told.number)
-    tick_number_lem told answer by = ap (λ (a : GuardedAnswer). a.number) by ∙ sym (else_done _ tick_done)
+    pub ticked_fills : Fills g.marking marking
+    ticked_fills =
+        fills table marking g.marking (parts done_before).0
+        (subst (λ (k : Marking). judged (table_of table) k ≡ 0) (sym (ap (λ (a : GuardedAnswer). a.marking) done_is))
+        (guarded_tick_judged (table_of table) (marking_of table marking) (read_judged table marking (parts done_before).0)))
+
+    pub ticked_count : g.count ≡ length (on caused table marking)
+    ticked_count = count_is (table_of table) (marking_of table marking) _ done_is refl
+
+    pub ticked_caused : take g.count g.caused ≡ on caused table marking
+    ticked_caused = caused_is (table_of table) (marking_of table marking) _ done_is refl

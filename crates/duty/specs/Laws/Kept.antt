@@ -1,12 +1,15 @@
 -- What the acting calls leave is judged 'done', granted or refused, so its image fills the buffer that the marking came in; and a fresh marking
 -- is written wherever it has room. Assumes nothing.
-use Rattle.std.specs.Prelude.{◌≡◌, refl, Bool, true, false, not, cond, List, ◌++◌, ℕ, ◌*◌, ◌/◌, eqb, ltb, length}
-use Rattle.std.proofs.Common.{◌∙◌, append-nil, arith, drop_of_length-le}
+use Rattle.std.specs.Prelude.{◌≡◌, refl, Bool, true, false, not, cond, List, ◌++◌, ℕ, ◌*◌, ◌/◌, eqb, ltb, length, Result, Ok, Err}
+use Rattle.std.proofs.Common.{◌∙◌, append-nil, arith, drop_of_length-le, ne_eqb}
 use Rattle.std.proofs.Math.Path.{ap, sym}
 use Rattle.std.proofs.Math.ListN.{drop}
 use Rattle.rules.specs.declared.Table.{Table}
 use Rattle.rules.specs.declared.Marking.{Marking}
-use Rattle.rules.specs.declared.MarkingAnswer.{MarkingAnswer}
+use Rattle.rules.specs.Answers.{MarkingAnswer}
+use Rattle.rules.specs.declared.refusal.Refusal.{Refusal}
+use Rattle.rules.specs.Results.{as_marking}
+use Rattle.rules.specs.Holds.{empty_marking}
 use Rattle.rules.specs.Numbers.{◌if◌, ◌else◌, done, check_number}
 use Rattle.rules.specs.Judge.{events_fit, table_number, marking_number, marking_number_for, judged}
 use Rattle.rules.specs.Image.{record_bytes, marking_image, write_number, write_marking, fresh}
@@ -20,13 +23,14 @@ use Rattle.rules.specs.Sleep.{slept, slept_caused, sleep_number, sleep_answer, p
 use Rattle.rules.specs.Trace.{steps_in, end_of, answers_of, bytes_number, run_bytes, run_bytes_answers}
 use Rattle.rules.specs.Images.{table_of, images_number}
 use Rattle.rules.proofs.Laws.Counting.{repeated_keeps}
-use Rattle.rules.proofs.Laws.Numbers.{both_done, else_done}
+use Rattle.rules.proofs.Laws.Numbers.{both_done, else_done, else_refused}
+use Rattle.rules.proofs.Laws.Results.{refused_number}
 use Rattle.rules.proofs.Laws.Judge.{good, good_marking}
 use Rattle.rules.proofs.Laws.Written.{number_done, bytes_written}
 use Rattle.rules.proofs.Laws.Trace.{guarded_judged, end_judged}
 use Rattle.rules.proofs.Demand3.Facts.{effect_judged, time_judged}
 use Rattle.image.specs.Theorems.{fresh_accepted}
-use Rattle.duty.specs.Performing.{Fills}
+use Rattle.duty.specs.Performing.{Fills, written_number, written}
 use Rattle.duty.specs.Laws.Images.{marking_long}
 
 -- done or not, if both are
@@ -131,3 +135,16 @@ module _ (events : ℕ) (made : MarkingAnswer) (made-is : made ≡ fresh events)
             ∙ ap (λ (k : ℕ). done k (marking_image m ++ drop (record_bytes * m.events) buffer) buffer) (sym as-made)
             ∙ ap (λ (k : ℕ). done number (marking_image m ++ drop (record_bytes * k) buffer) buffer) same,
       )
+
+-- the same of a result
+pub fresh_put : (events : ℕ) (answer : Result Marking Refusal) → as_marking empty_marking answer ≡ fresh events → (buffer : List ℕ) (number : ℕ) (put : List ℕ)
+    → number ≡ written_number answer (length buffer) → put ≡ written answer buffer
+    → (number ≡ ((fresh events).number else 14 if ltb (length buffer) (record_bytes * events)))
+    × (put ≡ done number (marking_image (fresh events).marking ++ drop (record_bytes * events) buffer) buffer)
+fresh_put events (Ok m) e buffer number put n p = fresh_written events (as_marking empty_marking (Ok m)) e refl buffer number put n p
+fresh_put events (Err r) e buffer number put n p =
+    let same : number ≡ (fresh events).number = n ∙ ap (λ (a : MarkingAnswer). a.number) e in
+    let refused : number ≡ 0 → ⊥ = λ z. refused_number r (sym n ∙ z) in (
+      same ∙ sym (else_refused _ (λ z. refused (same ∙ z))),
+      p ∙ rw (ne_eqb number 0 refused),
+    )

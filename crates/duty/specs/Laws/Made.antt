@@ -1,6 +1,6 @@
--- A table made of plain numbers: what its class bytes say, how it is judged, and that where nothing is refused it is the table that was told. From
+-- A table made of plain numbers: how it is judged, and that where nothing is refused it is the table that was told. From
 -- there to what is answered and written. Assumes nothing.
-use Rattle.std.specs.Prelude.{◌≡◌, true, ◌&&◌, ℕ, ◌+◌, ◌-◌, ◌*◌, ◌/◌, ◌%◌, ◌^◌, ◌<◌, ◌≤◌, length, get_or}
+use Rattle.std.specs.Prelude.{◌≡◌, true, ◌&&◌, ℕ, ◌-◌, ◌*◌, ◌<◌, ◌≤◌, length}
 use Rattle.std.proofs.Common.{◌∙◌, subst, lt-ltb, le-ltb, leb-true, eqb-true}
 use Rattle.std.proofs.Math.Path.{ap, sym}
 use Rattle.std.proofs.Math.Bool.{not}
@@ -12,7 +12,6 @@ use Rattle.rules.specs.declared.Table.{Table}
 use Rattle.rules.specs.Numbers.{◌if◌, ◌else◌, first_of, done}
 use Rattle.rules.specs.EventSet.{set_of}
 use Rattle.rules.specs.Holds.{most_events, most_relations, empty_relation, relation_of}
-use Rattle.rules.specs.Fields.{field}
 use Rattle.rules.specs.Judge.{events_fit, relations_fit, relation_number, table_number}
 use Rattle.rules.specs.Image.{table_length, table_image, write_table_number, write_table}
 use Rattle.rules.specs.Building.{relations_told, relation_from, numbers_number, table_from, build_number, build}
@@ -21,24 +20,13 @@ use Rattle.rules.proofs.Laws.Tests.{both, not_false}
 use Rattle.rules.proofs.Laws.Numbers.{if_done, both_done, else_done, else_refused, else_joined, done_alike, first_same}
 use Rattle.rules.proofs.Laws.Counting.{places_same}
 use Rattle.rules.proofs.Laws.TableWith.{relation_with}
-use Rattle.rules.proofs.Laws.Fields.{field_part, first_part, last_part, byte_field}
 use Rattle.rules.proofs.Laws.Fit.{fit_few}
 use Rattle.rules.proofs.Laws.Judge.{good_table}
-use Rattle.duty.specs.declared.building.Classes.{Classes}
-use Rattle.duty.specs.Making.{counts_number, class_number, is_controllable_in, is_causable_in, classes_from, held_relation, held_table}
+use Rattle.image.specs.declared.classes.Classes.{Classes}
+use Rattle.image.specs.Classes.{class_number, is_controllable_in, is_causable_in, classes_number, classes_of}
+use Rattle.duty.specs.Making.{counts_number, held_relation, held_table}
 use Rattle.duty.specs.Laws.Answered.{left}
 use Rattle.duty.specs.Laws.Held.{relation_judged, relation_kept}
-
--- the classes in a byte: controllable 1, causable 1, spare 6
-module _ (classes : List ℕ) (e : ℕ) (byte : get_or classes e 0 < 256) where
-  pub byte_controllable : eqb (get_or classes e 0 / 2 ^ 7 % 2) 1 ≡ is_controllable_in classes e
-  byte_controllable = ap (λ (w : ℕ). eqb (w / 2 ^ 7 % 2) 1) (sym (byte_field classes e byte)) ∙ rw (first_part classes (8 * e) 1 7)
-
-  pub byte_causable : eqb (get_or classes e 0 / 2 ^ 6 % 2) 1 ≡ is_causable_in classes e
-  byte_causable = ap (λ (w : ℕ). eqb (w / 2 ^ 6 % 2) 1) (sym (byte_field classes e byte)) ∙ rw (field_part classes (8 * e) 1 1 6)
-
-  pub byte_spare : get_or classes e 0 % 64 ≡ field classes (8 * e + 2) 6
-  byte_spare = ap (λ (w : ℕ). w % 64) (sym (byte_field classes e byte)) ∙ sym (last_part classes (8 * e) 2 6)
 
 module _ (events firm : ℕ) (classes numbers : List ℕ) where
   -- a refusal leaves every byte
@@ -109,29 +97,20 @@ module _ (events firm : ℕ) (classes numbers : List ℕ) (told : firm ≤ 1) wh
         (places_same empty_relation (held_relation numbers) (relation_from numbers) (relations_told numbers)
         (λ k b. relation_kept events events_few numbers k (subst (GoodRelation events) (relation_made k b) ((good_table made h).relations_good k b))))
 
-    -- the classes, as they are made
-    module _ (sets : Classes) (sets-are : sets ≡ classes_from classes) where
-      number_of : sets.number ≡ first_of events (class_number classes)
-      number_of = ap (λ (s : Classes). s.number) sets-are ∙ ap (λ (n : ℕ). first_of n (class_number classes)) classes_long
+    -- the classes
+    module _ {number : ℕ} (number_is : number ≡ classes_number classes) where
+      classes_told : number ≡ first_of events (class_number classes)
+      classes_told = number_is ∙ ap (λ (n : ℕ). first_of n (class_number classes)) classes_long
 
-      pub classes_refuse : (sets.number ≡ 0 → ⊥) → (room : ℕ) → sets.number ≡ build_number events firm classes numbers room
-      classes_refuse h room = number_of ∙ sym (in_order room ∙ else_done _ counted ∙ else_refused _ (λ z. h (number_of ∙ z)))
+      pub classes_refuse : (number ≡ 0 → ⊥) → (room : ℕ) → number ≡ build_number events firm classes numbers room
+      classes_refuse h room = classes_told ∙ sym (in_order room ∙ else_done _ counted ∙ else_refused _ (λ z. h (classes_told ∙ z)))
 
-      module _ (clear : sets.number ≡ 0) where
-        cleared : first_of (length classes) (class_number classes) ≡ 0
-        cleared = sym (ap (λ (s : Classes). s.number) sets-are) ∙ clear
-
-        controls : sets.controllable ≡ set_of events (is_controllable_in classes)
-        controls = ap (λ (s : Classes). s.controllable) sets-are ∙ rw (cleared, classes_long)
-
-        causes : sets.causable ≡ set_of events (is_causable_in classes)
-        causes = ap (λ (s : Classes). s.causable) sets-are ∙ rw (cleared, classes_long)
-
+      module _ (clear : number ≡ 0) where
         number_made : (room : ℕ) → write_table_number made room ≡ build_number events firm classes numbers room
         unfolding write_table_number
         number_made room =
             ap (λ (n : ℕ). n else 14 if ltb room (table_length events (relations_told numbers))) table_judged_lem
-            ∙ sym (in_order room ∙ else_done _ counted ∙ else_done _ (sym number_of ∙ clear))
+            ∙ sym (in_order room ∙ else_done _ counted ∙ else_done _ (sym classes_told ∙ clear))
 
         bytes_made : (buffer : List ℕ) → write_table made buffer ≡ build events firm classes numbers buffer
         unfolding write_table build write_table_number
@@ -142,11 +121,12 @@ module _ (events firm : ℕ) (classes numbers : List ℕ) (told : firm ≤ 1) wh
             ap (λ (t : Table). table_image t ++ drop (table_length events (relations_told numbers)) buffer)
             (made_told (both_done (table_number made) _ (number_made (length buffer) ∙ z)).0))
 
-        pub table_written_lem : (t : Table) → t ≡ held_table events (eqb firm 1) sets.controllable sets.causable numbers
-            → (buffer : List ℕ) (number : ℕ) (put : List ℕ) → number ≡ write_table_number t (length buffer) → put ≡ write_table t buffer
-            → (number ≡ build_number events firm classes numbers (length buffer)) × (put ≡ build events firm classes numbers buffer)
-        table_written_lem t t-is buffer number put n p =
-            let same : t ≡ made = t-is ∙ rw (controls, causes) in (
+        pub table_written_lem : (t : Table) (sets : Classes) → sets ≡ classes_of classes
+            → t ≡ held_table events (eqb firm 1) sets.controllable sets.causable numbers
+            → (buffer : List ℕ) (said : ℕ) (put : List ℕ) → said ≡ write_table_number t (length buffer) → put ≡ write_table t buffer
+            → (said ≡ build_number events firm classes numbers (length buffer)) × (put ≡ build events firm classes numbers buffer)
+        table_written_lem t sets sets-are t-is buffer said put n p =
+            let same : t ≡ made = t-is ∙ rw (sets-are, classes_long) in (
               n ∙ ap (λ (x : Table). write_table_number x (length buffer)) same ∙ number_made (length buffer),
               p ∙ ap (λ (x : Table). write_table x buffer) same ∙ bytes_made buffer,
             )

@@ -1,40 +1,31 @@
--- A list offered with nothing to fall back on: the empty fallback has a start only where nothing is due, and then the list has one too. So the
--- answer tells the list's own shortest start. Assumes nothing.
-use Rattle.std.specs.Prelude.{◌≡◌, refl, Bool, true, false, List, [], ℕ, ◌<◌, ◌≤◌, ◌+◌, leb, length, take}
-use Rattle.std.proofs.Common.{◌∙◌, ap, ⊎_elim, arith, length-take-le, leb-true, leb-false}
+-- The stretch that is handed back is as long as the answer says. Assumes nothing.
+use Rattle.std.specs.Prelude.{◌≡◌, refl, Bool, true, false, not, ◌||◌, cond, List, ℕ, ltb, length, take}
+use Rattle.std.proofs.Common.{length-take-le, leb-true}
 use Rattle.rules.specs.declared.Table.{Table}
 use Rattle.rules.specs.declared.Marking.{Marking}
+use Rattle.rules.specs.Numbers.{◌if◌}
 use Rattle.rules.specs.Judge.{judged}
-use Rattle.rules.specs.Time.{any_due}
-use Rattle.rules.specs.Remedy.{longest_list, shortest, remedy, stretch}
-use Rattle.rules.proofs.Laws.Tests.{decide}
-use Rattle.rules.proofs.Laws.Remedy.{shortest_empty, shortest_none, shortest_le, remedy_first, remedy_none}
+use Rattle.rules.specs.Remedy.{longest_list, shortest, has_start, remedy_number, remedy, stretch}
+use Rattle.rules.proofs.Laws.Tests.{not_false, clash}
+use Rattle.rules.proofs.Laws.Numbers.{if_done, both_done}
 
-module _ (t : Table) (m : Marking) (list : List ℕ) (h : judged t m ≡ 0) (short : length list ≤ longest_list) where
-  -- a list without a start is refused
-  none : length list < shortest t m list → (remedy t m list []).number ≡ 13
-  none g = ⊎_elim due idle (decide (any_due m))
+module _ (t : Table) (m : Marking) (preferred fallback : List ℕ) where
+  -- one of the lists has a start
+  some_start : (remedy t m preferred fallback).number ≡ 0 → (has_start t m preferred || has_start t m fallback) ≡ true
+  unfolding remedy remedy_number
+  some_start h =
+      let long = ltb longest_list (length preferred) || ltb longest_list (length fallback) in
+      let own = (both_done (judged t m) _ h).1 in
+      not_false _ (if_done 12 _ (both_done (14 if long) _ own).1)
+
+  pub start_long : (remedy t m preferred fallback).number ≡ 0
+      → length (stretch (remedy t m preferred fallback) preferred fallback) ≡ (remedy t m preferred fallback).length
+  unfolding remedy
+  start_long h = rw h (go (has_start t m preferred) (has_start t m fallback) refl refl (some_start h))
     where
-      due : any_due m ≡ true → (remedy t m list []).number ≡ 13
-      due d = rw (remedy_none t m list [] h short (omega arith) g (omega (arith, shortest_none t m d)))
-
-      idle : any_due m ≡ false → (remedy t m list []).number ≡ 13
-      idle d = absurd (omega (arith, g, shortest_empty t m list d))
-
-  module _ (number : ℕ) (number_is : number ≡ (remedy t m list []).number) where
-    pub start_found : (start : List ℕ) → start ≡ stretch (remedy t m list []) list [] → number ≡ 0 → length start ≡ shortest t m list
-    start_found start start_is z = go (leb (shortest t m list) (length list)) refl
-      where
-        go : (b : Bool) → leb (shortest t m list) (length list) ≡ b → length start ≡ shortest t m list
-        go true e =
-            let fits : shortest t m list ≤ length list = leb-true (shortest t m list) (length list) e in
-            let cut : start ≡ take (shortest t m list) list = start_is ∙ rw (remedy_first t m list [] h short (omega arith) fits) in
-            ap length cut ∙ length-take-le (shortest t m list) list fits
-        go false e = absurd (omega (arith, none (leb-false (shortest t m list) (length list) e), number_is, z))
-
-    pub start_none : (number ≡ 0 → ⊥) → length list + 1 ≡ shortest t m list
-    start_none z = go (leb (shortest t m list) (length list)) refl
-      where
-        go : (b : Bool) → leb (shortest t m list) (length list) ≡ b → length list + 1 ≡ shortest t m list
-        go true e = absurd (z (number_is ∙ rw (remedy_first t m list [] h short (omega arith) (leb-true (shortest t m list) (length list) e))))
-        go false e = omega (arith, leb-false (shortest t m list) (length list) e, shortest_le t m list)
+      go : (first second : Bool) → has_start t m preferred ≡ first → has_start t m fallback ≡ second → (first || second) ≡ true
+          → length (take (cond (not first) (shortest t m fallback) (shortest t m preferred)) (cond (not first) fallback preferred))
+          ≡ cond (not first) (shortest t m fallback) (shortest t m preferred)
+      go true second p q some = length-take-le (shortest t m preferred) preferred (leb-true (shortest t m preferred) (length preferred) p)
+      go false true p q some = length-take-le (shortest t m fallback) fallback (leb-true (shortest t m fallback) (length fallback) q)
+      go false false p q some = absurd (clash some refl)

@@ -1,32 +1,26 @@
--- `enabled` gives the judge's number, and the enabled test where that is 'done'.
-use mathlib.Core.Path.{◌≡◌, sym, ◌∙◌}
-use borrow.Author.Tests.{ne_eqb}
-use Rattle.rules.specs.Numbers.{◌else◌}
-use Rattle.rules.specs.Judge.{judged, event_number}
-use Rattle.rules.specs.Enabled.{enabled_answer}
-use Rattle.rules.proofs.Laws.Granted.{event_told}
-use Rattle.rules.proofs.Laws.Judge.{judged_by, event_by}
+-- Judged first, then the event by the relations as they are.
+use Rattle.std.proofs.Common.{rules, sym}
+use Rattle.rules.proofs.Laws.Judge.{good}
+use Rattle.rules.proofs.Laws.Granted.{event_fits}
+use Rattle.engine.specs.Laws.Refused.{at_judging, after_judging, enabled_refused}
+use Rattle.engine.specs.Laws.Done.{is_there, enabled_done}
 use Rattle.engine.proofs.enabled.Goals as goal
 
-pub is_enabled-enabled-requires : goal.is_enabled-enabled-requires
-is_enabled-enabled-requires c =
-    let event_number_lem : c.then_event-number.result ≡ (judged c.args.t c.args.m else event_number c.args.t c.args.event) =
-    event_by _ _ _ (judged_by _ _ c.judge_table.ensures c.then_marking-judged.ensures) c.then_event-number.ensures in
-    record {
-      good = (event_told _ _ _ (sym (event_number_lem) ∙ c.if-number-eq0.true)).0;
-      e_bound = (event_told _ _ _ (sym (event_number_lem) ∙ c.if-number-eq0.true)).1;
-    }
+pub returns-in_err-judge : goal.returns-in_err-judge
+returns-in_err-judge c =
+    let refusal = c.in_err-judge.field-0.0 in
+    enabled_refused c.args.t.now c.args.m.now refusal (search rules) _ (at_judging c.args.t.now c.args.m.now refusal _ c.in_err-judge.ensures)
 
-pub returns-then-number-eq0 : goal.returns-then-number-eq0
-unfolding enabled_answer
-returns-then-number-eq0 c =
-    let event_number_lem : c.then_event-number.result ≡ (judged c.args.t c.args.m else event_number c.args.t c.args.event) =
-    event_by _ _ _ (judged_by _ _ c.judge_table.ensures c.then_marking-judged.ensures) c.then_event-number.ensures in
-    rw (sym (event_number_lem) ∙ c.if-number-eq0.true, c.is_enabled-enabled.ensures)
+pub returns-in_err-exists : goal.returns-in_err-exists
+returns-in_err-exists c =
+    let refusal = c.in_err-exists.field-0.0 in
+    enabled_refused c.args.t.now c.args.m.now refusal (search rules) _ (after_judging c.args.t.now c.args.m.now refusal _ c.in_ok-judge.ensures c.in_err-exists.ensures)
+
+pub is_enabled-requires-clause-good : goal.is_enabled-requires-clause-good
+is_enabled-requires-clause-good c = good _ _ (sym c.in_ok-judge.ensures)
+
+pub is_enabled-requires-clause-e_bound : goal.is_enabled-requires-clause-e_bound
+is_enabled-requires-clause-e_bound c = event_fits (good _ _ (sym c.in_ok-judge.ensures)) (is_there _ _ c.in_ok-exists.ensures)
 
 pub returns : goal.returns
-unfolding enabled_answer
-returns c =
-    let event_number_lem : c.then_event-number.result ≡ (judged c.args.t c.args.m else event_number c.args.t c.args.event) =
-    event_by _ _ _ (judged_by _ _ c.judge_table.ensures c.then_marking-judged.ensures) c.then_event-number.ensures in
-    rw (← event_number_lem, ne_eqb _ _ c.if-number-eq0.false)
+returns c = enabled_done c.args.t.now c.args.m.now c.in_ok-judge.ensures _ c.in_ok-exists.ensures c.is_enabled.ensures

@@ -1,101 +1,42 @@
 -- Judged first, then by the verdict that the words come to; what is accepted is done in the words, and given back.
-use mathlib.Core.Path.{◌≡◌, ◌∙◌, sym, refl}
-use native.Mathlib.Omega.{arith}
-use Rattle.rules.specs.Judge.{judged}
-use Rattle.rules.specs.declared.CheckAnswer.TheVariants.{Accepts}
-use Rattle.rules.specs.Check.{verdict}
-use Rattle.rules.specs.Guard.{caused, guarded}
-use Rattle.rules.proofs.Laws.Judge.{judged_by}
-use Rattle.acts.specs.Laws.Judging.{unused, table_good, few_records, some_events, laid_out, given_back}
-use Rattle.acts.specs.Laws.Happen.{head_firm}
-use Rattle.duties.specs.Laws.Taking.{answered_is}
-use Rattle.duties.specs.Laws.Checked.{tick_unjudged, tick_refused, tick_rejected, tick_accepted}
+use Rattle.std.proofs.Common.{rules, refl, sym, ◌∙◌}
+use Rattle.rules.specs.declared.verdict.CheckError.TheVariants.{Refused, Rejected}
+use Rattle.acts.specs.Laws.Judging.{unused, table_good, few_records}
+use Rattle.engine.specs.Laws.Judging.{stands_laid, stands_given}
+use Rattle.engine.specs.Laws.Refused.{check_refused, check_rejected, guarded_refused}
+use Rattle.engine.specs.Laws.Done.{guarded_done}
 use Rattle.engine.proofs.guarded_tick.Goals as goal
 
-pub returns-then-number-ne0 : goal.returns-then-number-ne0
-returns-then-number-ne0 c =
-    let number : c.then_marking-number.result ≡ judged c.args.t c.args.m = judged_by _ _ c.judge_table.ensures c.then_marking-number.ensures in
-    c.nothing.ensures ∙ tick_unjudged _ _ (number) c.if-number-ne0.true
+pub returns-in_err-judge : goal.returns-in_err-judge
+returns-in_err-judge c =
+    let refusal = c.in_err-judge.field-0.0 in
+    guarded_refused c.args.t.now c.args.m.now (Refused refusal) (search rules) (check_refused c.args.t.now c.args.m.now refusal refl c.in_err-judge.ensures)
 
-pub derived-requires : goal.derived-requires
-derived-requires c =
-    let number : c.then_marking-number.result ≡ judged c.args.t c.args.m = judged_by _ _ c.judge_table.ensures c.then_marking-number.ensures in
-    let granted : judged c.args.t c.args.m ≡ 0 = sym (number) ∙ c.if-number-ne0.false in
-    record {
-      good_table = table_good _ _ (granted);
-      rows_value = (refl, refl);
-    }
+pub of-table-requires : goal.of-table-requires
+of-table-requires c = table_good c.args.t.now c.args.m.now (sym c.in_ok-judge.ensures)
 
-pub lay-requires : goal.lay-requires
-lay-requires c =
-    let number : c.then_marking-number.result ≡ judged c.args.t c.args.m = judged_by _ _ c.judge_table.ensures c.then_marking-number.ensures in
-    let granted : judged c.args.t c.args.m ≡ 0 = sym (number) ∙ c.if-number-ne0.false in
-    record {
-      events_bound = few_records _ _ (granted);
-      sets_len = (refl, refl);
-    }
+pub of-marking-requires : goal.of-marking-requires
+of-marking-requires c = few_records c.args.t.now c.args.m.now (sym c.in_ok-judge.ensures)
 
-pub found-found-requires : goal.found-found-requires
-found-found-requires c =
-    let number : c.then_marking-number.result ≡ judged c.args.t c.args.m = judged_by _ _ c.judge_table.ensures c.then_marking-number.ensures in
-    let granted : judged c.args.t c.args.m ≡ 0 = sym (number) ∙ c.if-number-ne0.false in
-    let d = granted in
-    let head = c.head_of-head.ensures in
-    (rw head (some_events _ _ d), rw head (table_good _ _ d).few_events, c.derived.ensures.derived.size)
+pub verdict-requires : goal.verdict-requires
+verdict-requires c = table_good c.args.t.now c.args.m.now (sym c.in_ok-judge.ensures)
 
-pub verdict-verdict-requires : goal.verdict-verdict-requires
-verdict-verdict-requires c =
-    let number : c.then_marking-number.result ≡ judged c.args.t c.args.m = judged_by _ _ c.judge_table.ensures c.then_marking-number.ensures in
-    let granted : judged c.args.t c.args.m ≡ 0 = sym (number) ∙ c.if-number-ne0.false in
-    table_good _ _ (granted)
+pub returns-in_err-verdict : goal.returns-in_err-verdict
+returns-in_err-verdict c =
+    let rejection = c.in_err-verdict.field-0.0 in
+    let stands = stands_laid c.args.t.now c.args.m.now (sym c.in_ok-judge.ensures) c.of-marking.result c.of-marking.ensures.stand in
+    let told = c.found.ensures c.args.t.now (unused c.args.m.now) c.args.m.now c.of-table.ensures.rows stands in
+    guarded_refused c.args.t.now c.args.m.now (Rejected rejection) (search rules) (check_rejected c.args.t.now c.args.m.now rejection refl c.in_ok-judge.ensures (c.in_err-verdict.ensures ∙ told))
 
-pub guarded-count-requires : goal.guarded-count-requires
-guarded-count-requires c =
-    let number : c.then_marking-number.result ≡ judged c.args.t c.args.m = judged_by _ _ c.judge_table.ensures c.then_marking-number.ensures in
-    let granted : judged c.args.t c.args.m ≡ 0 = sym (number) ∙ c.if-number-ne0.false in
-    let words = c.derived.ensures in
-    let d = granted in
-    (some_events _ _ d, (table_good _ _ d).few_events, words.derived.size, words.linked.size, omega arith)
+pub marking-requires : goal.marking-requires
+marking-requires c = few_records c.args.t.now c.args.m.now (sym c.in_ok-judge.ensures)
 
-pub give-after-requires : goal.give-after-requires
-give-after-requires c =
-    let number : c.then_marking-number.result ≡ judged c.args.t c.args.m = judged_by _ _ c.judge_table.ensures c.then_marking-number.ensures in
-    let granted : judged c.args.t c.args.m ≡ 0 = sym (number) ∙ c.if-number-ne0.false in
-    few_records _ _ (granted)
-
-pub returns-in-Refused : goal.returns-in-Refused
-returns-in-Refused c =
-    let number : c.then_marking-number.result ≡ judged c.args.t c.args.m = judged_by _ _ c.judge_table.ensures c.then_marking-number.ensures in
-    let granted : judged c.args.t c.args.m ≡ 0 = sym (number) ∙ c.if-number-ne0.false in
-    let told : let a = c.args in c.verdict-verdict.result ≡ verdict a.t a.m = let a = c.args in let d = granted in let stands =
-    laid_out a.t a.m d c.lay.ensures in c.verdict-verdict.ensures ∙ c.found-found.ensures a.t (unused a.m) 0 _ a.m (table_good _ _ d)
-    c.derived.ensures.derived c.head_of-head.ensures stands in
-    c.nothing-in-Refused.ensures ∙ tick_refused _ _ (granted) _ (sym (told) ∙ c.in-Refused.is)
-
-pub returns-in-Rejects : goal.returns-in-Rejects
-returns-in-Rejects c =
-    let number : c.then_marking-number.result ≡ judged c.args.t c.args.m = judged_by _ _ c.judge_table.ensures c.then_marking-number.ensures in
-    let granted : judged c.args.t c.args.m ≡ 0 = sym (number) ∙ c.if-number-ne0.false in
-    let told : let a = c.args in c.verdict-verdict.result ≡ verdict a.t a.m = let a = c.args in let d = granted in let stands =
-    laid_out a.t a.m d c.lay.ensures in c.verdict-verdict.ensures ∙ c.found-found.ensures a.t (unused a.m) 0 _ a.m (table_good _ _ d)
-    c.derived.ensures.derived c.head_of-head.ensures stands in
-    c.nothing-in-Rejects.ensures ∙ tick_rejected _ _ (granted) _ _ (sym (told) ∙ c.in-Rejects.is)
-
-pub returns-in-Accepts : goal.returns-in-Accepts
-returns-in-Accepts c =
-    let number : c.then_marking-number.result ≡ judged c.args.t c.args.m = judged_by _ _ c.judge_table.ensures c.then_marking-number.ensures in
-    let granted : judged c.args.t c.args.m ≡ 0 = sym (number) ∙ c.if-number-ne0.false in
-    let told : let a = c.args in c.verdict-verdict.result ≡ verdict a.t a.m = let a = c.args in let d = granted in let stands =
-    laid_out a.t a.m d c.lay.ensures in c.verdict-verdict.ensures ∙ c.found-found.ensures a.t (unused a.m) 0 _ a.m (table_good _ _ d)
-    c.derived.ensures.derived c.head_of-head.ensures stands in
-    let a = c.args in
-    let d = granted in
-    let words = c.derived.ensures in
-    let accepts : verdict a.t a.m ≡ Accepts = sym (told) ∙ c.in-Accepts.is in
-    let stands = laid_out a.t a.m d c.lay.ensures in
-    let firm = head_firm _ a.t c.head_of-head.ensures in
-    let g = c.guarded-count.ensures.stands a.t (unused a.m) a.m (table_good _ _ d) words.derived words.linked refl firm refl stands in
-    let next = rw (← c.tick.ensures.value) at g.0 in
-    answered_is (caused a.t a.m) (guarded a.t a.m) _ g.1
-    (given_back a.t a.m d _ _ _ c.give-after.ensures next)
-    ∙ tick_accepted a.t a.m d accepts
+pub returns : goal.returns
+returns c =
+    let done = sym c.in_ok-judge.ensures in
+    let stands = stands_laid c.args.t.now c.args.m.now done c.of-marking.result c.of-marking.ensures.stand in
+    let told = c.found.ensures c.args.t.now (unused c.args.m.now) c.args.m.now c.of-table.ensures.rows stands in
+    let taken = c.guarded-count.ensures.taken c.args.t.now (unused c.args.m.now) c.args.m.now c.of-table.ensures refl stands in
+    let listed = (c.guarded-count.ensures.stands c.args.t.now (unused c.args.m.now) c.args.m.now c.of-table.ensures refl stands).1 in
+    let after = c.pass_tick.ensures.stand c.args.t.now.events (unused c.args.m.now) _ taken in
+    guarded_done c.args.t.now c.args.m.now c.in_ok-judge.ensures (c.in_ok-verdict.ensures ∙ told) listed (stands_given c.args.t.now c.args.m.now done c.pass_tick.new.self c.marking.ensures after)

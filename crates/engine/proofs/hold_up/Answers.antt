@@ -1,44 +1,31 @@
--- `hold_up` gives the judge's number, and what holds the event up where that is 'done'.
-use mathlib.Core.Path.{◌≡◌, sym, ◌∙◌}
-use borrow.Author.Tests.{ne_eqb}
-use Rattle.rules.specs.Numbers.{◌else◌}
-use Rattle.rules.specs.declared.HoldUpAnswer.TheVariants.{Refused}
-use Rattle.rules.specs.Judge.{judged, event_number}
-use Rattle.rules.specs.HoldUp.{hold_up}
-use Rattle.rules.proofs.Laws.Granted.{event_told}
+-- Judged first, then the event by the relations as they are.
+use Rattle.std.proofs.Common.{rules, sym}
+use Rattle.rules.proofs.Laws.Judge.{good}
+use Rattle.rules.proofs.Laws.Granted.{event_fits}
 use Rattle.rules.proofs.Laws.InNumbers.{hold_up_whole}
-use Rattle.rules.proofs.Laws.Judge.{judged_by, event_by}
+use Rattle.engine.specs.Laws.Refused.{at_judging, after_judging, hold_up_refused}
+use Rattle.engine.specs.Laws.Done.{is_there, hold_up_done}
 use Rattle.engine.proofs.hold_up.Goals as goal
 
-pub holding-requires : goal.holding-requires
-holding-requires c =
-    let event_number_lem : c.then_event-number.result ≡ (judged c.args.t c.args.m else event_number c.args.t c.args.event) =
-    event_by _ _ _ (judged_by _ _ c.judge_table.ensures c.then_marking-judged.ensures) c.then_event-number.ensures in
-    record {
-      good = (event_told _ _ _ (sym (event_number_lem) ∙ c.if-number-eq0.true)).0;
-      e_bound = (event_told _ _ _ (sym (event_number_lem) ∙ c.if-number-eq0.true)).1;
-    }
+pub returns-in_err-judge : goal.returns-in_err-judge
+returns-in_err-judge c =
+    let refusal = c.in_err-judge.field-0.0 in
+    let whole = hold_up_whole c.args.t.now c.args.m.now c.args.event (hold_up_refused c.args.t.now c.args.m.now refusal (search rules) _ (at_judging c.args.t.now c.args.m.now refusal _ c.in_err-judge.ensures)) in
+    record { answer = whole.0; told = whole.1 }
 
-pub returns-then-number-eq0 : goal.returns-then-number-eq0
-unfolding hold_up
-returns-then-number-eq0 c =
-    let event_number_lem : c.then_event-number.result ≡ (judged c.args.t c.args.m else event_number c.args.t c.args.event) =
-    event_by _ _ _ (judged_by _ _ c.judge_table.ensures c.then_marking-judged.ensures) c.then_event-number.ensures in
-    let is : c.holding.result ≡ hold_up c.args.t c.args.m c.args.event = (rw (sym (event_number_lem) ∙ c.if-number-eq0.true) c.holding.ensures) in
-    let whole = hold_up_whole c.args.t c.args.m c.args.event is in
-    record {
-      answer = whole.0;
-      told = whole.1;
-    }
+pub returns-in_err-exists : goal.returns-in_err-exists
+returns-in_err-exists c =
+    let refusal = c.in_err-exists.field-0.0 in
+    let whole = hold_up_whole c.args.t.now c.args.m.now c.args.event (hold_up_refused c.args.t.now c.args.m.now refusal (search rules) _ (after_judging c.args.t.now c.args.m.now refusal _ c.in_ok-judge.ensures c.in_err-exists.ensures)) in
+    record { answer = whole.0; told = whole.1 }
+
+pub holding-requires-clause-good : goal.holding-requires-clause-good
+holding-requires-clause-good c = good _ _ (sym c.in_ok-judge.ensures)
+
+pub holding-requires-clause-e_bound : goal.holding-requires-clause-e_bound
+holding-requires-clause-e_bound c = event_fits (good _ _ (sym c.in_ok-judge.ensures)) (is_there _ _ c.in_ok-exists.ensures)
 
 pub returns : goal.returns
-unfolding hold_up
 returns c =
-    let event_number_lem : c.then_event-number.result ≡ (judged c.args.t c.args.m else event_number c.args.t c.args.event) =
-    event_by _ _ _ (judged_by _ _ c.judge_table.ensures c.then_marking-judged.ensures) c.then_event-number.ensures in
-    let is : Refused c.then_event-number.result ≡ hold_up c.args.t c.args.m c.args.event = (rw (← event_number_lem, ne_eqb _ _ c.if-number-eq0.false)) in
-    let whole = hold_up_whole c.args.t c.args.m c.args.event is in
-    record {
-      answer = whole.0;
-      told = whole.1;
-    }
+    let whole = hold_up_whole c.args.t.now c.args.m.now c.args.event (hold_up_done c.args.t.now c.args.m.now c.in_ok-judge.ensures _ c.holding.result c.in_ok-exists.ensures c.holding.ensures) in
+    record { answer = whole.0; told = whole.1 }

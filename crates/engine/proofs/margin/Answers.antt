@@ -1,78 +1,41 @@
--- `margin`: the judge's number, 8 where there is no such relation, else the margin of the relation; the judge has bounded the age and the time.
-use mathlib.Core.Path.{◌≡◌, sym, ◌∙◌}
-use mathlib.Core.Bool.{not}
-use native.Mathlib.Omega.{arith}
-use borrow.Author.Tests.{lt-ltb, le-ltb, ne_eqb}
-use lib.Dec.{ltb}
-use Rattle.rules.specs.Numbers.{◌if◌}
-use Rattle.rules.specs.declared.MarginAnswer.TheVariants.{Refused}
-use Rattle.rules.specs.Judge.{judged}
-use Rattle.rules.specs.Margin.{margin}
-use Rattle.rules.specs.Shapes.Good.{Good}
-use Rattle.rules.proofs.Laws.Judge.{good, judged_by}
-use Rattle.rules.proofs.Laws.Granted.{right_told, margin_told_lem, stands}
+-- Judged first, so age and time are within the limit, then the relation.
+use Rattle.std.proofs.Common.{rules, sym, arith}
+use Rattle.rules.proofs.Laws.Judge.{good}
+use Rattle.rules.proofs.Laws.Granted.{right_told, margin_told_lem}
 use Rattle.rules.proofs.Laws.InNumbers.{margin_whole}
+use Rattle.engine.specs.Laws.Refused.{at_judging, after_judging, margin_refused}
+use Rattle.engine.specs.Laws.Done.{is_there, margin_done}
 use Rattle.engine.proofs.margin.Goals as goal
+
+pub returns-in_err-judge : goal.returns-in_err-judge
+returns-in_err-judge c =
+    let refusal = c.in_err-judge.field-0.0 in
+    let whole = margin_whole c.args.t.now c.args.m.now c.args.relation (margin_refused c.args.t.now c.args.m.now refusal (search rules) _ (at_judging c.args.t.now c.args.m.now refusal _ c.in_err-judge.ensures)) in
+    record { answer = whole.0; told = whole.1 }
+
+pub returns-in_err-exists : goal.returns-in_err-exists
+returns-in_err-exists c =
+    let refusal = c.in_err-exists.field-0.0 in
+    let whole = margin_whole c.args.t.now c.args.m.now c.args.relation (margin_refused c.args.t.now c.args.m.now refusal (search rules) _ (after_judging c.args.t.now c.args.m.now refusal _ c.in_ok-judge.ensures c.in_err-exists.ensures)) in
+    record { answer = whole.0; told = whole.1 }
 
 pub offset_bounds-t-relation : goal.offset_bounds-t-relation
 offset_bounds-t-relation c =
-    let number : c.then_marking-number.result ≡ judged c.args.t c.args.m = judged_by _ _ c.judge_table.ensures c.then_marking-number.ensures in
-    let told_of : Good c.args.t c.args.m = good _ _ (sym (number) ∙ c.if-number-eq0.true) in
-    omega (arith, (told_of).table_good.few_relations)
+    let there = is_there _ _ c.in_ok-exists.ensures in
+    omega (arith, there, (good c.args.t.now c.args.m.now (sym c.in_ok-judge.ensures)).table_good.few_relations)
 
 pub bounds-t-relation : goal.bounds-t-relation
 bounds-t-relation c =
-    let number : c.then_marking-number.result ≡ judged c.args.t c.args.m = judged_by _ _ c.judge_table.ensures c.then_marking-number.ensures in
-    let told_of : Good c.args.t c.args.m = good _ _ (sym (number) ∙ c.if-number-eq0.true) in
-    omega (arith, (told_of).table_good.few_relations)
+    let there = is_there _ _ c.in_ok-exists.ensures in
+    omega (arith, there, (good c.args.t.now c.args.m.now (sym c.in_ok-judge.ensures)).table_good.few_relations)
 
-pub bounds-m-x : goal.bounds-m-x
-bounds-m-x c =
-    let number : c.then_marking-number.result ≡ judged c.args.t c.args.m = judged_by _ _ c.judge_table.ensures c.then_marking-number.ensures in
-    let told_of : Good c.args.t c.args.m = good _ _ (sym (number) ∙ c.if-number-eq0.true) in
-    right_told (told_of).table_good _ c.if-relation-t.true
+pub bounds-m-k : goal.bounds-m-k
+bounds-m-k c = right_told (good c.args.t.now c.args.m.now (sym c.in_ok-judge.ensures)).table_good _ (is_there _ _ c.in_ok-exists.ensures)
 
 pub margin_of-requires : goal.margin_of-requires
-margin_of-requires c =
-    let number : c.then_marking-number.result ≡ judged c.args.t c.args.m = judged_by _ _ c.judge_table.ensures c.then_marking-number.ensures in
-    let told_of : Good c.args.t c.args.m = good _ _ (sym (number) ∙ c.if-number-eq0.true) in
-    margin_told_lem (told_of) _ c.if-relation-t.true
-
-pub returns-then-relation-t : goal.returns-then-relation-t
-unfolding margin
-returns-then-relation-t c =
-    let number : c.then_marking-number.result ≡ judged c.args.t c.args.m = judged_by _ _ c.judge_table.ensures c.then_marking-number.ensures in
-    let is : c.margin_of.result ≡ margin c.args.t c.args.m c.args.relation = (rw (
-      sym (number)
-          ∙ c.if-number-eq0.true,
-      lt-ltb _ _ c.if-relation-t.true,
-    ) c.margin_of.ensures) in
-    let whole = margin_whole c.args.t c.args.m c.args.relation is in
-    record {
-      answer = whole.0;
-      told = whole.1;
-    }
-
-pub returns-then-number-eq0 : goal.returns-then-number-eq0
-unfolding margin
-returns-then-number-eq0 c =
-    let number : c.then_marking-number.result ≡ judged c.args.t c.args.m = judged_by _ _ c.judge_table.ensures c.then_marking-number.ensures in
-    let is : Refused 8 ≡ margin c.args.t c.args.m c.args.relation = (rw (sym (number) ∙ c.if-number-eq0.true, le-ltb _ _ c.if-relation-t.false)) in
-    let whole = margin_whole c.args.t c.args.m c.args.relation is in
-    record {
-      answer = whole.0;
-      told = whole.1;
-    }
+margin_of-requires c = margin_told_lem (good c.args.t.now c.args.m.now (sym c.in_ok-judge.ensures)) _ (is_there _ _ c.in_ok-exists.ensures)
 
 pub returns : goal.returns
-unfolding margin
 returns c =
-    let number : c.then_marking-number.result ≡ judged c.args.t c.args.m = judged_by _ _ c.judge_table.ensures c.then_marking-number.ensures in
-    let next = 8 if not (ltb c.args.relation c.args.t.count) in
-    let is : Refused c.then_marking-number.result ≡ margin c.args.t c.args.m c.args.relation =
-    (rw (← stands next (number) c.if-number-eq0.false, ne_eqb _ _ c.if-number-eq0.false)) in
-    let whole = margin_whole c.args.t c.args.m c.args.relation is in
-    record {
-      answer = whole.0;
-      told = whole.1;
-    }
+    let whole = margin_whole c.args.t.now c.args.m.now c.args.relation (margin_done c.args.t.now c.args.m.now c.in_ok-judge.ensures _ c.margin_of.result c.in_ok-exists.ensures c.margin_of.ensures) in
+    record { answer = whole.0; told = whole.1 }

@@ -1,59 +1,39 @@
 -- Judged first; where nothing is due the clock moves on, and the marking that the words then stand for is given back.
-use mathlib.Core.Path.{◌≡◌, ◌∙◌, sym, refl}
-use native.Mathlib.Omega.{arith}
-use Rattle.rules.specs.Judge.{judged}
-use Rattle.rules.specs.Time.{due_set, time}
-use Rattle.rules.proofs.Laws.Judge.{judged_by}
+use Rattle.std.proofs.Common.{rules, refl, sym, ◌∙◌}
 use Rattle.acts.specs.Laws.Due.{tick_goes, tick_held}
-use Rattle.engine.specs.Laws.Judging.{acted_done, acted_refused}
-use Rattle.acts.specs.Laws.Judging.{unused, table_good, few_records, some_events, laid_out, given_back}
-use Rattle.engine.specs.Laws.Judging.{tick_judged, tick_unjudged}
+use Rattle.acts.specs.Laws.Judging.{unused, table_good, few_records, some_events}
+use Rattle.rules.specs.declared.refusal.Refusal.TheVariants.{StillDue}
+use Rattle.engine.specs.Laws.Judging.{stands_laid, stands_given}
+use Rattle.engine.specs.Laws.Refused.{at_judging, after_judging, tick_refused}
+use Rattle.engine.specs.Laws.Done.{tick_done}
 use Rattle.engine.proofs.plain_tick.Goals as goal
 
-pub lay-requires : goal.lay-requires
-lay-requires c =
-    let number : c.then_marking-number.result ≡ judged c.args.t c.args.m = judged_by _ _ c.judge_table.ensures c.then_marking-number.ensures in
-    let granted : judged c.args.t c.args.m ≡ 0 = sym (number) ∙ c.if-number-eq0.true in
-    record {
-      events_bound = few_records _ _ (granted);
-      sets_len = (refl, refl);
-    }
+pub returns-in_err-judge : goal.returns-in_err-judge
+returns-in_err-judge c =
+    let refusal = c.in_err-judge.field-0.0 in
+    tick_refused c.args.t.now c.args.m.now refusal (search rules) (at_judging c.args.t.now c.args.m.now refusal _ c.in_err-judge.ensures)
+
+pub of-marking-requires : goal.of-marking-requires
+of-marking-requires c = few_records c.args.t.now c.args.m.now (sym c.in_ok-judge.ensures)
 
 pub due-requires : goal.due-requires
-due-requires c =
-    let number : c.then_marking-number.result ≡ judged c.args.t c.args.m = judged_by _ _ c.judge_table.ensures c.then_marking-number.ensures in
-    let granted : judged c.args.t c.args.m ≡ 0 = sym (number) ∙ c.if-number-eq0.true in
-    let d = granted in
-    (some_events _ _ d, (table_good _ _ d).few_events)
+due-requires c = let done = sym c.in_ok-judge.ensures in (some_events c.args.t.now c.args.m.now done, (table_good c.args.t.now c.args.m.now done).few_events)
 
-pub give-after-requires : goal.give-after-requires
-give-after-requires c =
-    let number : c.then_marking-number.result ≡ judged c.args.t c.args.m = judged_by _ _ c.judge_table.ensures c.then_marking-number.ensures in
-    let granted : judged c.args.t c.args.m ≡ 0 = sym (number) ∙ c.if-number-eq0.true in
-    few_records _ _ (granted)
+pub returns-then-due-ne0 : goal.returns-then-due-ne0
+returns-then-due-ne0 c =
+    let stands = stands_laid c.args.t.now c.args.m.now (sym c.in_ok-judge.ensures) c.of-marking.result c.of-marking.ensures.stand in
+    let due = c.due.ensures (unused c.args.m.now) c.args.m.now stands in
+    let held = tick_held c.args.m.now (λ z. c.if-due-ne0.true (due ∙ z)) in
+    tick_refused c.args.t.now c.args.m.now StillDue refl (after_judging c.args.t.now c.args.m.now StillDue _ c.in_ok-judge.ensures (sym held))
 
-pub returns-then-due-eq0 : goal.returns-then-due-eq0
-returns-then-due-eq0 c =
-    let number : c.then_marking-number.result ≡ judged c.args.t c.args.m = judged_by _ _ c.judge_table.ensures c.then_marking-number.ensures in
-    let granted : judged c.args.t c.args.m ≡ 0 = sym (number) ∙ c.if-number-eq0.true in
-    let due_told_lem : c.due.result ≡ due_set c.args.m = let a = c.args in c.due.ensures (unused a.m) a.m (laid_out a.t a.m (granted) c.lay.ensures) in
-    let a = c.args in
-    let d = granted in
-    let goes = tick_goes a.m (sym (due_told_lem) ∙ c.if-due-eq0.true) in
-    let after = c.tick.ensures.by_index _ (unused a.m) _ _ a.m (laid_out a.t a.m d c.lay.ensures) in
-    acted_done (time a.m) a.m refl (sym goes) (given_back a.t a.m d _ _ _ c.give-after.ensures after)
-    ∙ tick_judged a.t a.m d
-
-pub returns-then-number-eq0 : goal.returns-then-number-eq0
-returns-then-number-eq0 c =
-    let number : c.then_marking-number.result ≡ judged c.args.t c.args.m = judged_by _ _ c.judge_table.ensures c.then_marking-number.ensures in
-    let granted : judged c.args.t c.args.m ≡ 0 = sym (number) ∙ c.if-number-eq0.true in
-    let due_told_lem : c.due.result ≡ due_set c.args.m = let a = c.args in c.due.ensures (unused a.m) a.m (laid_out a.t a.m (granted) c.lay.ensures) in
-    let d = granted in
-    let held = tick_held _ (λ e. c.if-due-eq0.false (due_told_lem ∙ e)) in
-    acted_refused _ _ (λ e. absurd (omega arith)) (sym held) ∙ tick_judged _ _ d
+pub marking-requires : goal.marking-requires
+marking-requires c = few_records c.args.t.now c.args.m.now (sym c.in_ok-judge.ensures)
 
 pub returns : goal.returns
 returns c =
-    let number : c.then_marking-number.result ≡ judged c.args.t c.args.m = judged_by _ _ c.judge_table.ensures c.then_marking-number.ensures in
-    tick_unjudged _ _ (number) c.if-number-eq0.false
+    let done = sym c.in_ok-judge.ensures in
+    let stands = stands_laid c.args.t.now c.args.m.now done c.of-marking.result c.of-marking.ensures.stand in
+    let due = c.due.ensures (unused c.args.m.now) c.args.m.now stands in
+    let goes = tick_goes c.args.m.now (sym due ∙ c.if-due-ne0.false) in
+    tick_done c.args.t.now c.args.m.now c.in_ok-judge.ensures (sym goes)
+    (stands_given c.args.t.now c.args.m.now done c.pass_tick.new.self c.marking.ensures (c.pass_tick.ensures.stand _ (unused c.args.m.now) c.args.m.now stands))

@@ -13,16 +13,14 @@ use Rattle.std.proofs.lemmas.List.{length-replicate, take-append-le}
 use borrow.Author.Tests.{eqb-true, eqb-false, ne_eqb, lt-ltb, leb-true, leb-false}
 use Rattle.rules.specs.declared.Table.{Table}
 use Rattle.rules.specs.declared.Marking.{Marking}
-use Rattle.rules.specs.declared.TableAnswer.{TableAnswer}
-use Rattle.rules.specs.declared.MarkingAnswer.{MarkingAnswer}
-use Rattle.engine.specs.declared.StationAnswer.{StationAnswer}
+use Rattle.rules.specs.Answers.{TableAnswer, MarkingAnswer}
 use Rattle.rules.specs.Numbers.{◌if◌, ◌else◌, done}
 use Rattle.rules.specs.Holds.{most_events}
 use Rattle.rules.specs.Fields.{field}
 use Rattle.rules.specs.Judge.{events_fit, table_number, marking_number, marking_number_for, judged}
 use Rattle.rules.specs.Image.{record_bytes, events_in, read_table, read_marking, marking_image, write_number, write_marking}
 use Rattle.rules.specs.Trace.{most_steps, trace_number, steps_in, end_of, answers_of}
-use Rattle.rules.specs.Station.{table_bytes, station, longest_marking, longest_steps, longest_input, longest_output, heard_number, heard_bytes, heard_output}
+use Rattle.rules.specs.Station.{table_bytes, station, longest_marking, longest_steps, longest_input, longest_output, heard_bytes, heard_output}
 use Rattle.rules.proofs.Laws.Tests.{decide}
 use Rattle.rules.proofs.Laws.Numbers.{both_done}
 use Rattle.rules.proofs.Laws.Judge.{good}
@@ -232,7 +230,7 @@ module _ (t : Table) (m : Marking) (kept : List ℕ) where
           let q = both_done (1 if eqb (steps % 2) 1) 14 p.1 in
           absurd (omega (arith, q.1))
 
-  abbrev by_number_lem : ℕ → ℕ
+  abbrev pub by_number_lem : ℕ → ℕ
   by_number_lem n = judged t m else 1 if eqb (n % 2) 1 else trace_number (n / 2) (length kept / 2)
 
   pub steps_refused : {n : ℕ} → n ≡ by_number_lem (length kept) → (n ≡ 0 → ⊥) → after_marking t m kept 0 ≡ n ∷ []
@@ -286,6 +284,10 @@ module _ (t : Table) (after : Marking) (judged_done : judged t after ≡ 0) (ans
       sized : length now ≡ count + length (drop count before)
       sized = rw now-is (length-append answers (drop count before) ∙ rw counted)
 
+  -- there is room for it
+  pub fits_behind : write_number after (length (take (length now - count) (drop count now))) ≡ 0
+  fits_behind = rw whole (number_done after (length (drop count before)) marking_done (omega (arith, few, same_events, long, room)))
+
   image_long : length (marking_image after) ≡ record_bytes * t.events
   image_long = image_length after ∙ rw same_events
 
@@ -326,6 +328,12 @@ module _ (t : Table) (m : Marking) (kept before : List ℕ) (granted : by_number
       rw now-is (length-append (answers_of t m (steps_in kept)) (drop count before)
       ∙ rw (counted, length-drop count before) (omega (arith, (steps_granted t m kept granted).1, room)))
 
+  pub end_fits : (after : Marking) → after ≡ end_of t m (steps_in kept) → write_number after (length (take (length now - count) (drop count now))) ≡ 0
+  end_fits after e =
+      let known = steps_granted t m kept granted in
+      fits_behind t after (subst (λ (k : Marking). judged t k ≡ 0) (sym e) (end_judged t m (steps_in kept) known.0))
+      (answers_of t m (steps_in kept)) before now count counted (omega (arith, known.1, room)) now-is
+
   pub steps_told : (after : Marking) → after ≡ end_of t m (steps_in kept)
       → (put : List ℕ) → put ≡ write_marking after (take (length now - count) (drop count now))
       → AtStart (after_marking t m kept 0) before (count + record_bytes * t.events) (take count now ++ (put ++ drop (length now - count) (drop count now)))
@@ -336,24 +344,6 @@ module _ (t : Table) (m : Marking) (kept before : List ℕ) (granted : by_number
       subst (λ (l : List ℕ). AtStart l before (count + record_bytes * t.events) (take count now ++ (put ++ drop (length now - count) (drop count now)))) bytes
       (told_behind t after (subst (λ (k : Marking). judged t k ≡ 0) (sym e) (end_judged t m (steps_in kept) known.0))
       (answers_of t m (steps_in kept)) before now count counted (omega (arith, known.1, room)) now-is put f)
-
--- The call: a refusal writes nothing; else what is told of the whole input is what is written
-module _ (kept : List ℕ) (beyond : ℕ) (before : List ℕ) where
-  abbrev number_of_call : ℕ
-  number_of_call = heard_number (length kept) beyond (length before)
-
-  abbrev Answers : StationAnswer → List ℕ → Type 0
-  Answers answer after =
-      (answer ≡ record { number = number_of_call; count = length (heard_bytes kept beyond (length before)) }) × (after ≡ heard_output kept beyond before)
-
-  pub call_refused : {number : ℕ} → number ≡ number_of_call → (number ≡ 0 → ⊥) → Answers (record { number = number; count = 0 }) before
-  unfolding heard_bytes heard_output
-  call_refused {number} e h = let refused : eqb number_of_call 0 ≡ false = ne_eqb number_of_call 0 (λ z. h (e ∙ z)) in (rw (e, refused), rw refused)
-
-  pub call_done : {count : ℕ} {after : List ℕ} → number_of_call ≡ 0 → AtStart (station (kept ++ replicate beyond 0)) before count after
-      → Answers (record { number = 0; count = count }) after
-  unfolding heard_bytes heard_output
-  call_done granted told = (rw (granted, told.counted), rw granted told.put)
 
 -- Every input is answered by a byte or more: one for a refusal, else the end marking of at least one event
 pub some_byte : (input : List ℕ) → 0 < length (station input)
@@ -382,8 +372,9 @@ some_byte input = rw (station_is input) (go (eqb (station_number input) 0) refl)
         omega (arith, length-append answers (marking_image after), image_length after, known.marking_good.same_events, known.table_good.some_events)
 
 -- so the call writes one or more, within the output, where it has room and enough bytes are kept
-pub call_writes : (kept : List ℕ) (beyond : ℕ) (before : List ℕ) {answer : StationAnswer} {after : List ℕ} → Answers kept beyond before answer after
-    → longest_output ≤ length before → (beyond ≡ 0) ⊎ (longest_input ≤ length kept) → (0 < answer.count) × (answer.count ≤ length after)
+pub call_writes : (kept : List ℕ) (beyond : ℕ) (before : List ℕ) {count : ℕ} {after : List ℕ}
+    → (count ≡ length (heard_bytes kept beyond (length before))) × (after ≡ heard_output kept beyond before)
+    → longest_output ≤ length before → (beyond ≡ 0) ⊎ (longest_input ≤ length kept) → (0 < count) × (count ≤ length after)
 unfolding heard_bytes
 call_writes kept beyond before p fits enough = rw (p.0, p.1)
     (rw (heard_enough (length kept) beyond (length before) fits enough) (some_byte (kept ++ replicate beyond 0)), heard_within kept beyond before)

@@ -1,49 +1,20 @@
--- What a call that acts answers, of values that are judged and of some that the judge refuses. Assumes nothing.
+-- What a call knows of the words of a marking that it has judged. Assumes nothing.
 use Rattle.std.specs.Prelude.{◌≡◌, ℕ}
-use Rattle.std.proofs.Common.{◌∙◌, ap, sym}
-use borrow.Author.Tests.{ne_eqb}
+use Rattle.std.proofs.Common.{sym, subst}
 use Rattle.rules.specs.declared.Table.{Table}
 use Rattle.rules.specs.declared.Marking.{Marking}
-use Rattle.rules.specs.declared.MarkingAnswer.{MarkingAnswer}
-use Rattle.rules.specs.Numbers.{done}
 use Rattle.rules.specs.Judge.{judged}
-use Rattle.rules.specs.Effect.{effect}
-use Rattle.rules.specs.Happen.{happen_number, happen}
-use Rattle.rules.specs.Time.{time, plain_tick, plain_tick_number}
-use Rattle.rules.proofs.Laws.Granted.{stands}
+use Rattle.rules.specs.Shapes.Good.{GoodMarking}
+use Rattle.rules.proofs.Laws.Judge.{good}
+use Rattle.acts.specs.declared.marking_words.MarkingWords.{MarkingWords}
+use Rattle.acts.specs.Words.{StandFor}
+use Rattle.acts.specs.Laws.Judging.{unused}
 
--- an answer of a call that acts: its number, and the marking where it is done
-abbrev pub acted : ℕ → Marking → Marking → MarkingAnswer
-acted number after m = record { number = number; marking = done number after m }
+-- The words of a judged marking stand for it, and the marking that is given back is the one that they stand for then.
+module _ (t : Table) (m : Marking) (d : judged t m ≡ 0) (words : MarkingWords) where
+  pub stands_laid : (GoodMarking m.events m → StandFor m.events (unused m) words m) → StandFor t.events (unused m) words m
+  stands_laid laid = let g = (good t m d).marking_good in subst (λ (n : ℕ). StandFor n (unused m) words m) g.same_events (laid (subst (λ (n : ℕ). GoodMarking n m) (sym g.same_events) g))
 
-module _ (t : Table) (m : Marking) where
-  -- what happens in judged values, and in some that the judge refuses
-  pub happen_judged : (e : ℕ) → judged t m ≡ 0 → acted (happen_number t m e) (effect t m e) m ≡ happen t m e
-  unfolding happen
-  happen_judged e d = rw d
-
-  pub happen_unjudged : (e : ℕ) {number : ℕ} → number ≡ judged t m → (number ≡ 0 → ⊥) → record { number = number; marking = m } ≡ happen t m e
-  unfolding happen
-  happen_unjudged e p h = rw (← stands (happen_number t m e) p h, ne_eqb _ 0 h)
-
--- an act that is done, and one that is refused
-pub acted_done : (after m : Marking) {number told : ℕ} {r : Marking} → number ≡ 0 → number ≡ told → r ≡ done number after m
-    → record { number = 0; marking = r } ≡ acted told after m
-acted_done after m {number} {told} {r} z p q =
-    let zero-told : 0 ≡ told = sym z ∙ p in
-    ap (λ (k : Marking). record { number = 0; marking = k }) (q ∙ ap (λ (n : ℕ). done n after m) z) ∙ ap (λ (n : ℕ). acted n after m) zero-told
-
-pub acted_refused : (after m : Marking) {number told : ℕ} → (number ≡ 0 → ⊥) → number ≡ told → record { number = number; marking = m } ≡ acted told after m
-acted_refused after m {number} {told} h p =
-    let kept : record { number = number; marking = m } ≡ acted number after m = rw (ne_eqb number 0 h) in
-    kept ∙ ap (λ (n : ℕ). acted n after m) p
-
--- a plain tick of judged values, and one that the judge refuses
-module _ (t : Table) (m : Marking) where
-  pub tick_judged : judged t m ≡ 0 → acted (plain_tick_number m) (time m) m ≡ plain_tick t m
-  unfolding plain_tick
-  tick_judged d = rw d
-
-  pub tick_unjudged : {number : ℕ} → number ≡ judged t m → (number ≡ 0 → ⊥) → record { number = number; marking = m } ≡ plain_tick t m
-  unfolding plain_tick
-  tick_unjudged p h = rw (← stands (plain_tick_number m) p h, ne_eqb _ 0 h)
+  pub stands_given : {r after : Marking} → ((k : Marking) → StandFor m.events (unused m) words k → r ≡ k) → StandFor t.events (unused m) words after → r ≡ after
+  stands_given {r} {after} given held =
+      given after (subst (λ (n : ℕ). StandFor n (unused m) words after) (sym (good t m d).marking_good.same_events) held)

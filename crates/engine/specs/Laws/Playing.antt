@@ -1,64 +1,93 @@
 -- A run over words: what holds between two steps is kept, and after the last of them the words stand for the end marking. Assumes nothing.
-use Rattle.std.specs.Prelude.{◌≡◌, refl, Bool, true, false, List, ◌++◌, ℕ, ◌<◌, ◌+◌, ◌*◌, ◌/◌, length, drop, get_or, set}
-use Rattle.std.proofs.Common.{◌∙◌}
+use Rattle.std.specs.Prelude.{◌≡◌, refl, Bool, true, false, not, ◌&&◌, ◌||◌, eqb, List, [], ◌∷◌, ◌++◌, ℕ, ◌<◌, ◌+◌, length, drop, get_or, set}
+use Rattle.std.proofs.Common.{◌∙◌, ap, sym, subst, ⊎_elim, eqb-true}
+use Rattle.std.proofs.Math.Seq.{drop-length}
+use Rattle.std.proofs.lemmas.List.{append-nil}
 use Rattle.rules.specs.declared.Table.{Table}
 use Rattle.rules.specs.declared.Marking.{Marking}
 use Rattle.rules.specs.declared.Record.{Record}
-use Rattle.rules.specs.declared.CheckAnswer.TheVariants.{Accepts}
+use Rattle.rules.specs.declared.Step.{Step}
+use Rattle.rules.specs.CheckAnswer.{Accepts}
+use Rattle.rules.specs.Numbers.{◌if◌, check_number}
 use Rattle.rules.specs.Judge.{judged}
 use Rattle.rules.specs.Check.{verdict}
-use Rattle.rules.specs.Trace.{end_of, answers_of, steps_in}
+use Rattle.rules.specs.Trace.{step_number, stepped, end_of, answers_of}
 use Rattle.rules.specs.Shapes.Turned.{turned}
-use Rattle.rules.proofs.Laws.Trace.{after_all_bytes}
-use Rattle.engine.specs.declared.trace.Running.{Running}
-use Rattle.duties.specs.declared.step.Stepped.{Stepped}
-use Rattle.acts.specs.Stands.{Stands}
+use Rattle.rules.proofs.Laws.Tests.{clash, both, either}
+use Rattle.rules.proofs.Laws.Numbers.{both_done}
+use Rattle.rules.proofs.Laws.Check.{verdict_done}
+use Rattle.rules.proofs.Laws.Trace.{stepped_judged, After, after_none, after_more, after_all}
+use Rattle.rules.proofs.Demand3.Accepts.{check_parts, check_accepts}
+use Rattle.rules.proofs.Demand3.Statements.{still_accepts as accepts-on}
+use Rattle.acts.specs.declared.marking_words.MarkingWords.{MarkingWords}
+use Rattle.acts.specs.Words.{StandFor}
 use Rattle.duties.specs.Step.{Turned}
-use Rattle.engine.specs.Running.{further_run}
-use Rattle.acts.specs.Laws.Judging.{unused}
-use Rattle.engine.specs.Laws.Running.{Going, going_first, going_byte}
+use Rattle.engine.specs.Running.{no_step}
 
--- one step over words is one step of the run
-pub further_turned : {t : Table} {tail : List Record} (r : Running) {kind event : ℕ} {told : Stepped} {sets columns : List ℕ}
-    → Turned t tail r.marking r.accepted kind event told sets columns → {after : Marking} → after ≡ (turned t r.marking kind event).marking
-    → record { marking = after; accepted = told.accepted; answer = told.number; number = r.number; steps = r.steps } ≡ further_run t r kind event
-unfolding further_run
-further_turned r step e = rw (e, step.accepts, step.number)
+-- Between two steps: the marking is judged, and where the check is said to accept it does.
+pub record Fit (t : Table) (now : Marking) (accepted : Bool) : Type 0 where
+  pub judged_done : judged t now ≡ 0
+  pub accepts : accepted ≡ true → verdict t now ≡ Accepts
 
--- after i steps: a run that the words stand for
-pub record Playing (t : Table) (m : Marking) (bytes buffer : List ℕ) (i clock : ℕ) (sets columns : List ℕ) (accepted : Bool) (held : List ℕ) : Type 0 where
-  pub run : Running
-  pub stands : Stands t.events (unused m) clock sets columns run.marking
-  pub known : run.accepted ≡ accepted
-  pub going : Going t m (steps_in bytes) buffer i run held
+-- It is kept. Judged values stay judged; a guarded tick that is done shows that the check accepts, and from there it accepts whatever the steps
+-- are.
+module _ (t : Table) (now : Marking) (accepted : Bool) (s : Step) (f : Fit t now accepted) where
+  three_told : (event : ℕ) → step_number t now (record { kind = 3; event = event }) ≡ 0 → check_number (verdict t now) ≡ 0
+  unfolding step_number
+  three_told event h = (both_done (15 if not (eqb event 0)) (check_number (verdict t now)) h).1
 
-module _ {t : Table} {m : Marking} {bytes buffer : List ℕ} where
-  pub playing_first : {sets columns : List ℕ} → Stands t.events (unused m) 0 sets columns m → Playing t m bytes buffer 0 0 sets columns false buffer
-  playing_first stands = record {
-    run = record { marking = m; accepted = false; answer = 0; number = 0; steps = 0 };
-    stands = stands;
-    known = refl;
-    going = going_first t m (steps_in bytes) buffer _ refl refl;
+  ticked_accepts : eqb s.kind 3 && eqb (step_number t now s) 0 ≡ true → verdict t now ≡ Accepts
+  ticked_accepts h =
+      let p = both (eqb s.kind 3) (eqb (step_number t now s) 0) h in
+      verdict_done t now (three_told s.event (rw (eqb-true s.kind 3 p.0) at (eqb-true (step_number t now s) 0 p.1)))
+
+  on_accepts : verdict t now ≡ Accepts → verdict t (stepped t now s) ≡ Accepts
+  unfolding end_of
+  on_accepts a = (check_parts t _ (accepts-on t now (check_accepts t now f.judged_done a) (s ∷ []))).1
+
+  fit_next : Fit t (stepped t now s) (accepted || eqb s.kind 3 && eqb (step_number t now s) 0)
+  fit_next = record {
+    judged_done = stepped_judged t now s f.judged_done;
+    accepts = λ h. on_accepts (⊎_elim f.accepts ticked_accepts (either accepted _ h));
   }
 
-  module _ {i clock : ℕ} {sets columns : List ℕ} {accepted : Bool} {held : List ℕ} (p : Playing t m bytes buffer i clock sets columns accepted held) where
-    -- where the check is said to accept it does
-    pub playing_accepts : judged t m ≡ 0 → accepted ≡ true → verdict t p.run.marking ≡ Accepts
-    playing_accepts judged_done e = (p.going.fit judged_done).accepts (p.known ∙ e)
+-- After i steps: the words stand for the marking, and the buffer has an answer for each step before what it held.
+pub record Playing (t : Table) (tail : List Record) (m : Marking) (steps : List Step) (buffer : List ℕ) (i : ℕ) (words : MarkingWords)
+    (accepted : Bool) (held : List ℕ) : Type 0 where
+  pub now : Marking
+  pub stands : StandFor t.events tail words now
+  pub fit : Fit t now accepted
+  pub after : After t m steps buffer i now held
 
-    pub playing_more : i < length bytes / 2 → i < length buffer → {told : Stepped} {later-sets later-columns : List ℕ}
-        → Turned t (unused m) p.run.marking accepted (get_or bytes (2 * i) 0) (get_or bytes (2 * i + 1) 0) told later-sets later-columns
-        → Playing t m bytes buffer (i + 1) told.clock later-sets later-columns told.accepted (set held i told.number)
-    unfolding further_run
-    playing_more more room step = record {
-      run = further_run t p.run (get_or bytes (2 * i) 0) (get_or bytes (2 * i + 1) 0);
+module _ (t : Table) (tail : List Record) (m : Marking) (steps : List Step) (buffer : List ℕ) where
+  pub playing_first : (words : MarkingWords) → judged t m ≡ 0 → StandFor t.events tail words m
+      → Playing t tail m steps buffer 0 words false buffer
+  playing_first words done stands = record {
+    now = m;
+    stands = stands;
+    fit = record { judged_done = done; accepts = λ b. absurd (clash b refl) };
+    after = after_none t m steps buffer;
+  }
+
+  module _ (i : ℕ) (words : MarkingWords) (accepted : Bool) (held : List ℕ) (p : Playing t tail m steps buffer i words accepted held) where
+    pub playing_more : i < length steps → i < length buffer → (s : Step) → s ≡ get_or steps i no_step
+        → (told : ℕ) (next-accepted : Bool) (next : MarkingWords) → Turned t tail p.now accepted s told next-accepted next
+        → Playing t tail m steps buffer (i + 1) next next-accepted (set held i told)
+    unfolding turned
+    playing_more more room s is told next-accepted next step = record {
+      now = stepped t p.now s;
       stands = step.stands;
-      known = rw (step.accepts, step.number, p.known);
-      going = rw step.number (going_byte t m bytes buffer i p.run held p.going more room refl);
+      fit = subst (λ (b : Bool). Fit t (stepped t p.now s) b) (sym (step.accepts ∙ ap (λ (n : ℕ). accepted || eqb s.kind 3 && eqb n 0) step.number)) (fit_next t p.now accepted s p.fit);
+      after =
+          after_more t m steps buffer i p.now held p.after more room (record { number = told; marking = stepped t p.now s })
+          (rw (← is, step.number) refl);
     }
 
-    pub playing_last : i ≡ length bytes / 2 → {after : Marking} → after ≡ p.run.marking
-        → (after ≡ end_of t m (steps_in bytes)) × (held ≡ answers_of t m (steps_in bytes) ++ drop (length bytes / 2) buffer)
-    playing_last e given =
-        let all = after_all_bytes t m bytes buffer i p.run.marking held p.going.after e in
-        (given ∙ all.0, all.1)
+    pub playing_last : i ≡ length steps → length steps ≡ length buffer
+        → (StandFor t.events tail words (end_of t m steps)) × (held ≡ answers_of t m steps)
+    playing_last e all =
+        let done = after_all t m steps buffer i p.now held p.after e in
+        let none : drop (length steps) buffer ≡ [] = rw all (drop-length buffer) in (
+          subst (λ (k : Marking). StandFor t.events tail words k) done.0 p.stands,
+          done.1 ∙ ap {B = List ℕ} (λ l. answers_of t m steps ++ l) none ∙ append-nil (answers_of t m steps),
+        )

@@ -10,7 +10,7 @@ use Rattle.std.proofs.Math.Dec.{eqb, ltb}
 use Rattle.std.proofs.Math.ListN.{length, get_or, drop, length-drop}
 use Rattle.rules.specs.declared.Relation.{Relation}
 use Rattle.rules.specs.declared.Table.{Table}
-use Rattle.rules.specs.declared.TableAnswer.{TableAnswer}
+use Rattle.rules.specs.Answers.{TableAnswer}
 use Rattle.rules.specs.Numbers.{◌if◌, first_of}
 use Rattle.rules.specs.Holds.{empty_relation, relation_of, is_controllable, is_causable}
 use Rattle.rules.specs.Fields.{field, flag, ◌▸◌, ◌∶◌, bit}

@@ -1,7 +1,7 @@
 -- The fields of a relation, and those of a record before its count, are parts of the one number that their bytes hold: the law of fields, cited at
 -- each width. What an image has of them are the bytes of that number, and behind a record's those of its count. Assumes nothing.
-use Rattle.std.specs.Prelude.{◌≡◌, refl, Bool, true, false, cond, List, ◌++◌, ℕ, ◌+◌, ◌/◌, ◌^◌, ◌<◌, eqb, leb}
-use Rattle.std.proofs.Math.Path.{sym, ap}
+use Rattle.std.specs.Prelude.{◌≡◌, refl, Bool, true, false, cond, List, ◌++◌, ℕ, ◌+◌, ◌-◌, ◌*◌, ◌/◌, ◌^◌, ◌<◌, eqb, leb, length, take, drop}
+use Rattle.std.proofs.Math.Path.{sym, ap, ap₂}
 use Rattle.std.proofs.Common.{◌∙◌, lt_of_le_of_lt, arith, leb-true}
 use Rattle.std.proofs.Math.Pow.{high}
 use mir.Val.{bool_byte}
@@ -16,6 +16,7 @@ use Rattle.rules.proofs.Laws.Tests.{both, not_false}
 use Rattle.rules.proofs.Laws.Numbers.{if_done}
 use Rattle.rules.proofs.Laws.Fit.{fits_parts, count_small}
 use Rattle.rules.proofs.Laws.Fields.{field_lt, field_join, field_part, first_part, last_part, field_ends, bytes_joined, flag_bit, bit_flag, bit_lt}
+use Rattle.image.specs.Laws.Slices.{field_of_part, word_part, word_behind, from_to}
 use Rattle.image.specs.Packed.{relation_of_word, word_of_relation, record_of_word, word_of_record, whole_of_record}
 
 -- a flag as the machine has it
@@ -154,3 +155,35 @@ record_back image p r small e =
       bit_flag r.pending,
       bit_flag r.bounded,
     )
+
+-- the number as the machine has it: it fits, and is no smaller on the way
+abbrev machine_word : Record → ℕ
+machine_word r =
+    ((((bool_byte r.happened * 1073741824 + r.age) * 2 + bool_byte r.included) * 2 + bool_byte r.pending) * 2 + bool_byte r.bounded) * 1073741824
+    + r.deadline
+
+pub machine_fits : (r : Record) → record_number r ≡ 0 → machine_word r < 2 ^ 64
+machine_fits r h = rw (flag_byte r.happened, flag_byte r.included, flag_byte r.pending, flag_byte r.bounded) (word_fits r (room r h))
+
+-- a record by its two words, read from its bytes; and where those are a part of an image
+module _ (bytes : List ℕ) (long : length bytes ≡ record_bytes) {behind : List ℕ} (behind-is : behind ≡ drop 8 bytes)
+    {count : ℕ} (counted : count ≡ field behind 0 (8 * length behind))
+  where
+    count_read : count ≡ field bytes 64 32
+    count_read = counted ∙ rw behind-is (word_behind bytes 8 4 long)
+
+    pub count_fits_word : count < 2 ^ 32
+    count_fits_word = rw count_read (field_lt bytes 64 32)
+
+    pub record_by_words : {before : List ℕ} → before ≡ take 8 bytes → {state : ℕ} → state ≡ field before 0 (8 * length before)
+        → record_of_word state count ≡ record_at bytes 0
+    record_by_words before-is s = ap₂ record_of_word (s ∙ rw before-is (word_part bytes 0 8 (omega (arith, long)))) count_read ∙ record_parts bytes 0
+
+pub record_of_part : (image : List ℕ) (at : ℕ) → record_at (take (at + record_bytes - at) (drop at image)) 0 ≡ record_at image (8 * at)
+record_of_part image at =
+    let part = take record_bytes (drop at image) in
+    ap (λ (bytes : List ℕ). record_at bytes 0) (from_to image at record_bytes)
+    ∙ sym (record_parts part 0)
+    ∙ ap₂ record_of_word (field_of_part image at record_bytes 0 64 (omega arith) ∙ ap (λ (p : ℕ). field image p 64) (omega arith))
+    (field_of_part image at record_bytes 64 32 (omega arith))
+    ∙ record_parts image (8 * at)

@@ -1,40 +1,59 @@
--- The parts of the readers' definitions: what a byte of a class and the 6 bytes of a relation say, and what a marking that is judged 'done'
--- says of its records. The parts of a table's image, put one behind the other. Assumes nothing.
-use Rattle.std.specs.Prelude.{◌≡◌, refl, not, List, [], ◌++◌, ℕ, ◌+◌, ◌*◌, ◌/◌, ◌%◌, ◌^◌, ◌<◌, ◌≤◌, eqb, length, take, drop}
-use Rattle.std.proofs.Common.{sym, ap, ap₂, ◌∙◌, append_assoc, one-mul, arith, length-append, length-take-le}
+-- The parts of the readers' definitions: what the 6 bytes of a relation say, and what a marking that is judged 'done' says of its records. The parts of a table's image, put one behind the other. Assumes nothing.
+use Rattle.std.specs.Prelude.{◌≡◌, refl, not, List, [], ◌++◌, ℕ, ◌+◌, ◌-◌, ◌*◌, ◌%◌, ◌^◌, ◌<◌, ◌≤◌, length, take, drop}
+use Rattle.std.proofs.Common.{sym, ap, ap₂, ◌∙◌, one-mul, arith, length-append}
+use borrow.Author.Tests.{eq-eqb, ne_eqb}
 use Rattle.rules.specs.declared.Relation.{Relation}
 use Rattle.rules.specs.declared.Table.{Table}
 use Rattle.rules.specs.declared.Marking.{Marking}
 use Rattle.rules.specs.Numbers.{◌if◌}
-use Rattle.rules.specs.Holds.{most_events, record_of}
+use Rattle.rules.specs.Holds.{most_events, most_relations, record_of}
 use Rattle.rules.specs.Fields.{field, bytes_of, ◌▸◌, ◌∶◌}
-use Rattle.rules.specs.Judge.{events_fit, record_number, marking_number}
+use Rattle.rules.specs.Judge.{events_fit, table_number, relation_number, record_number, marking_number}
 use Rattle.rules.specs.Pieces.{pieces}
-use Rattle.rules.specs.Image.{class_bit, class_spare, relation_spare, header_image, class_byte, class_image, relation_image, place_image, table_image}
+use Rattle.rules.specs.Image.{relation_bit, relation_spare, relation_at, relation_image_number, header_image, class_byte, class_image, relation_image, place_image, table_image}
 use Rattle.rules.specs.Image.{table_length, FieldsHold}
 use Rattle.rules.proofs.Laws.Tests.{not_false}
 use Rattle.rules.proofs.Laws.Numbers.{if_done, both_done, first_each}
-use Rattle.rules.proofs.Laws.Fields.{field_part, first_part, last_part, bytes_joined, bit_lt}
+use Rattle.rules.proofs.Laws.Fields.{last_part, bytes_joined, bit_lt}
+use Rattle.rules.proofs.Laws.Judge.{good_table}
 use Rattle.rules.proofs.Laws.Fit.{fit_few}
 use Rattle.rules.proofs.Laws.Pieces.{put_behind, pieces_length}
 use Rattle.rules.proofs.Laws.Written.{header_length, classes_sized}
-use Rattle.image.specs.Packed.{word_of_relation, ends_word, header_word}
-use Rattle.image.specs.Parts.{is_controllable_in, is_causable_in}
+use Rattle.image.specs.Packed.{relation_of_word, word_of_relation, ends_word, header_word}
+use Rattle.image.specs.Laws.Packed.{relation_parts}
+use Rattle.image.specs.Laws.Slices.{word_from_to}
 
-module _ (image : List ℕ) where
-  -- controllable 1, causable 1, spare 6
-  pub class_controllable : (e : ℕ) → eqb (field image (class_bit e) 8 / 2 ^ 7 % 2) 1 ≡ is_controllable_in image e
-  class_controllable e = rw (first_part image (class_bit e) 1 7)
+-- relation k of an image, by the word that is read from its 6 bytes
+module _ (image : List ℕ) (events k : ℕ) (room : table_length events (k + 1) ≤ length image) where
+  abbrev at : ℕ
+  at = 4 + events + 6 * k
 
-  pub class_causable : (e : ℕ) → eqb (field image (class_bit e) 8 / 2 ^ 6 % 2) 1 ≡ is_causable_in image e
-  class_causable e = rw (field_part image (class_bit e) 1 1 6)
+  abbrev read : ℕ
+  read = field (take (at + 6 - at) (drop at image)) 0 (8 * length (take (at + 6 - at) (drop at image)))
 
-  pub class_spare_lem : (e : ℕ) → field image (class_bit e) 8 % 64 ≡ class_spare image e
-  class_spare_lem e = sym (last_part image (class_bit e) 2 6)
+  module _ {w : ℕ} (w-is : w ≡ read) where
+    word : w ≡ field image (relation_bit events k) 48
+    word = w-is ∙ word_from_to image at 6 (omega arith)
 
-  -- the spare bits of a relation
-  pub relation_spare_lem : (p : ℕ) → field image p 48 % 4 ≡ relation_spare image p
-  relation_spare_lem p = sym (last_part image p 46 2)
+    pub relation_read : relation_of_word w ≡ relation_at image (relation_bit events k)
+    relation_read = ap relation_of_word word ∙ relation_parts image (relation_bit events k)
+
+    spare : w % 4 ≡ relation_spare image (relation_bit events k)
+    spare = ap (λ (v : ℕ). v % 4) word ∙ sym (last_part image (relation_bit events k) 46 2)
+
+    pub relation_refused : (w % 4 ≡ 0 → ⊥) → 2 ≡ relation_image_number image events (relation_bit events k)
+    unfolding relation_image_number
+    relation_refused h = rw (ne_eqb _ 0 (λ z. h (spare ∙ z))) refl
+
+    pub relation_judged : w % 4 ≡ 0 → {relation : Relation} → relation ≡ relation_of_word w → {number : ℕ} → number ≡ relation_number events relation
+        → number ≡ relation_image_number image events (relation_bit events k)
+    unfolding relation_image_number
+    relation_judged clear relation-is number-is =
+        number-is ∙ ap (relation_number events) (relation-is ∙ relation_read) ∙ rw (eq-eqb _ 0 (sym spare ∙ clear)) refl
+
+-- a table that is judged 'done' has few events and relations
+pub table_few : (t : Table) → table_number t ≡ 0 → table_length t.events t.count ≤ table_length most_events most_relations
+table_few t h = let good = good_table t h in omega (arith, good.few_events, good.few_relations)
 
 -- a marking that is judged 'done'
 pub events_few : (m : Marking) → marking_number m ≡ 0 → m.events ≤ most_events
@@ -56,16 +75,6 @@ relation_bytes k held e =
     let late : k.time * 4 < 2 ^ 32 = omega (arith, held.time_fits_lem) in
     let word : upper ▸ 32 ∶ k.time * 4 ≡ word_of_relation k = omega arith in
     ap (λ (v : ℕ). bytes_of 2 v ++ bytes_of 4 (k.time * 4)) e ∙ bytes_joined 2 4 upper (k.time * 4) small late ∙ ap (bytes_of 6) word
-
--- two pieces put one behind the other are one
-pub two_put : (buffer first second : List ℕ) (at width wider : ℕ) {middle after : List ℕ} → at ≤ length buffer → length first ≡ width
-    → middle ≡ take at buffer ++ first ++ drop (at + width) buffer
-    → after ≡ take (at + width) middle ++ second ++ drop (at + width + wider) middle
-    → after ≡ take at buffer ++ (first ++ second) ++ drop (at + width + wider) buffer
-two_put buffer first second at width wider room long a b =
-    let held = length-append (take at buffer) first ∙ ap₂ ◌+◌ (length-take-le at buffer room) long in
-    put_behind buffer (take at buffer ++ first) second (at + width) wider held a b
-    ∙ ap (λ (l : List ℕ). l ++ drop (at + width + wider) buffer) (append_assoc (take at buffer) first second)
 
 -- header, classes and relations, one put behind the other, are the table's image, and the rest is as it was
 pub table_put : (t : Table) (buffer : List ℕ) {word : ℕ} {first second whole : List ℕ} → word ≡ header_word t.events t.count t.firm

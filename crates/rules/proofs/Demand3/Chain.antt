@@ -8,10 +8,8 @@ use Rattle.std.proofs.Math.Seq.{split_at}
 use Rattle.rules.specs.declared.Table.{Table}
 use Rattle.rules.specs.declared.Marking.{Marking}
 use Rattle.rules.specs.declared.Step.{Step}
-use Rattle.rules.specs.declared.MarkingAnswer.{MarkingAnswer}
-use Rattle.rules.specs.declared.CheckAnswer.{CheckAnswer}
-use Rattle.rules.specs.declared.CheckAnswer.TheVariants.{Accepts}
-use Rattle.rules.specs.declared.GuardedAnswer.{GuardedAnswer}
+use Rattle.rules.specs.Answers.{MarkingAnswer, GuardedAnswer}
+use Rattle.rules.specs.CheckAnswer.{CheckAnswer, Accepts}
 use Rattle.rules.specs.Counting.{times}
 use Rattle.rules.specs.Numbers.{done}
 use Rattle.rules.specs.Holds.{most_events, record_of}

@@ -6,8 +6,7 @@ use Rattle.rules.specs.declared.Table.{Table}
 use Rattle.rules.specs.declared.Marking.{Marking}
 use Rattle.rules.specs.declared.Record.{Record}
 use Rattle.rules.specs.declared.Step.{Step}
-use Rattle.rules.specs.declared.CheckAnswer.{CheckAnswer}
-use Rattle.rules.specs.declared.CheckAnswer.TheVariants.{Rejects}
+use Rattle.rules.specs.CheckAnswer.{CheckAnswer, Rejects}
 use Rattle.rules.specs.Counting.{every, some, lowest, how_many, repeated, below_from}
 use Rattle.rules.specs.Numbers.{first_of}
 use Rattle.rules.specs.EventSet.{has, set_of}

@@ -12,8 +12,8 @@ use Rattle.std.proofs.lemmas.Bool.{eqb-false}
 use Rattle.rules.specs.declared.Table.{Table}
 use Rattle.rules.specs.declared.Marking.{Marking}
 use Rattle.rules.specs.declared.Step.{Step}
-use Rattle.rules.specs.declared.MarkingAnswer.{MarkingAnswer}
-use Rattle.rules.specs.declared.CheckAnswer.TheVariants.{Accepts}
+use Rattle.rules.specs.Answers.{MarkingAnswer}
+use Rattle.rules.specs.CheckAnswer.{Accepts}
 use Rattle.rules.specs.Counting.{times}
 use Rattle.rules.specs.Numbers.{done}
 use Rattle.rules.specs.Holds.{count_limit, record_of}

@@ -3,7 +3,7 @@ use Rattle.std.specs.Prelude.{◌≡◌, refl, Bool, true, false, ◌&&◌, cond
 use Rattle.std.proofs.Common.{sym, subst, arith, eq-eqb, ltb-true}
 use Rattle.rules.specs.declared.Table.{Table}
 use Rattle.rules.specs.declared.Marking.{Marking}
-use Rattle.rules.specs.declared.CheckAnswer.TheVariants.{Accepts}
+use Rattle.rules.specs.CheckAnswer.{Accepts}
 use Rattle.rules.specs.Counting.{times}
 use Rattle.rules.specs.Holds.{is_causable}
 use Rattle.rules.specs.Enabled.{is_enabled}

@@ -8,10 +8,8 @@ use Rattle.std.proofs.Math.Logic.{⊎_elim}
 use Rattle.std.proofs.Math.ListN.{length}
 use Rattle.rules.specs.declared.Table.{Table}
 use Rattle.rules.specs.declared.Marking.{Marking}
-use Rattle.rules.specs.declared.SetAnswer.{SetAnswer}
-use Rattle.rules.specs.declared.CheckAnswer.TheVariants.{Accepts}
-use Rattle.rules.specs.declared.SleptAnswer.{SleptAnswer}
-use Rattle.rules.specs.declared.TicksAnswer.{TicksAnswer}
+use Rattle.rules.specs.Answers.{SetAnswer, SleptAnswer, TicksAnswer}
+use Rattle.rules.specs.CheckAnswer.{Accepts}
 use Rattle.rules.specs.Counting.{repeated}
 use Rattle.rules.specs.Judge.{judged}
 use Rattle.rules.specs.Time.{any_due, time, due_answer}

@@ -11,8 +11,7 @@ use Rattle.std.proofs.Math.Dec.{eqb, leb}
 use Rattle.rules.specs.declared.Table.{Table}
 use Rattle.rules.specs.declared.Marking.{Marking}
 use Rattle.rules.specs.declared.Step.{Step}
-use Rattle.rules.specs.declared.MarkingAnswer.{MarkingAnswer}
-use Rattle.rules.specs.declared.GuardedAnswer.{GuardedAnswer}
+use Rattle.rules.specs.Answers.{MarkingAnswer, GuardedAnswer}
 use Rattle.rules.specs.Numbers.{◌if◌, done}
 use Rattle.rules.specs.Holds.{record_of}
 use Rattle.rules.specs.Effect.{effect}

@@ -12,9 +12,8 @@ use Rattle.std.proofs.Math.Seq.{split_at}
 use Rattle.std.proofs.lemmas.Bool.{eqb-false}
 use Rattle.rules.specs.declared.Table.{Table}
 use Rattle.rules.specs.declared.Marking.{Marking}
-use Rattle.rules.specs.declared.CheckAnswer.TheVariants.{Accepts, Rejects}
-use Rattle.rules.specs.declared.GuardedAnswer.{GuardedAnswer}
-use Rattle.rules.specs.declared.SleptAnswer.{SleptAnswer}
+use Rattle.rules.specs.CheckAnswer.{Accepts, Rejects}
+use Rattle.rules.specs.Answers.{GuardedAnswer, SleptAnswer}
 use Rattle.rules.specs.Counting.{repeated}
 use Rattle.rules.specs.Numbers.{done}
 use Rattle.rules.specs.Holds.{most_events}

@@ -6,7 +6,7 @@ use borrow.Author.Tests.{lt-ltb}
 use Rattle.rules.specs.declared.Table.{Table}
 use Rattle.rules.specs.declared.Marking.{Marking}
 use Rattle.rules.specs.declared.Step.{Step}
-use Rattle.rules.specs.declared.CheckAnswer.TheVariants.{Accepts}
+use Rattle.rules.specs.CheckAnswer.{Accepts}
 use Rattle.rules.specs.EventSet.{has}
 use Rattle.rules.specs.Holds.{is_controllable, record_of}
 use Rattle.rules.specs.Effect.{deadline_of, effect}

@@ -7,7 +7,7 @@ use Rattle.std.proofs.Math.Seq.{get_or-append_seam, take-append_seam}
 use Rattle.rules.specs.declared.Table.{Table}
 use Rattle.rules.specs.declared.Marking.{Marking}
 use Rattle.rules.specs.declared.Step.{Step}
-use Rattle.rules.specs.declared.CheckAnswer.TheVariants.{Accepts}
+use Rattle.rules.specs.CheckAnswer.{Accepts}
 use Rattle.rules.specs.Counting.{every, some, lowest, how_many, repeated, below_from}
 use Rattle.rules.specs.Numbers.{first_of}
 use Rattle.rules.specs.EventSet.{has, set_of}

@@ -10,7 +10,7 @@ use native.Mathlib.Omega.{arith}
 use borrow.Author.Tests.{eqb-true, eq-eqb, lt-ltb, le-ltb, ltb-true}
 use Rattle.rules.specs.declared.Table.{Table}
 use Rattle.rules.specs.declared.Marking.{Marking}
-use Rattle.rules.specs.declared.HoldUpAnswer.TheVariants.{Enabled, EnabledUnless, Excluded, Blocked}
+use Rattle.rules.specs.HoldUpAnswer.{Enabled, EnabledUnless, Excluded, Blocked}
 use Rattle.rules.specs.Counting.{lowest}
 use Rattle.rules.specs.EventSet.{has, with_event, set_of}
 use Rattle.rules.specs.Numbers.{hold_up_in_numbers}

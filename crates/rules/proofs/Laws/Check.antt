@@ -3,8 +3,7 @@ use Rattle.std.specs.Prelude.{◌≡◌, refl, Bool, true, false, cond, ℕ, ltb
 use Rattle.std.proofs.Common.{arith}
 use Rattle.rules.specs.declared.Table.{Table}
 use Rattle.rules.specs.declared.Marking.{Marking}
-use Rattle.rules.specs.declared.CheckAnswer.{CheckAnswer}
-use Rattle.rules.specs.declared.CheckAnswer.TheVariants.{Refused, Accepts, Rejects}
+use Rattle.rules.specs.CheckAnswer.{CheckAnswer, Refused, Accepts, Rejects}
 use Rattle.rules.specs.Counting.{lowest}
 use Rattle.rules.specs.Numbers.{check_number}
 use Rattle.rules.specs.Check.{reason, verdict}

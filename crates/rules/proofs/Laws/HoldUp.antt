@@ -9,8 +9,7 @@ use Rattle.rules.specs.declared.Relation.{Relation}
 use Rattle.rules.specs.declared.Table.{Table}
 use Rattle.rules.specs.declared.Record.{Record}
 use Rattle.rules.specs.declared.Marking.{Marking}
-use Rattle.rules.specs.declared.HoldUpAnswer.{HoldUpAnswer}
-use Rattle.rules.specs.declared.HoldUpAnswer.TheVariants.{Refused, Enabled, EnabledUnless, Excluded, Blocked}
+use Rattle.rules.specs.HoldUpAnswer.{HoldUpAnswer, Refused, Enabled, EnabledUnless, Excluded, Blocked}
 use Rattle.rules.specs.Counting.{some, lowest}
 use Rattle.rules.specs.Numbers.{◌else◌, done, hold_up_number, hold_up_in_numbers}
 use Rattle.rules.specs.Holds.{most_events, relation_of, record_of}

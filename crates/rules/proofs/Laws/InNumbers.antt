@@ -8,13 +8,10 @@ use Rattle.std.proofs.Math.Dec.{eqb}
 use Rattle.std.proofs.Math.IntN.{pos}
 use Rattle.rules.specs.declared.Table.{Table}
 use Rattle.rules.specs.declared.Marking.{Marking}
-use Rattle.rules.specs.declared.Rest.TheVariants.{Never as never, By as by}
-use Rattle.rules.specs.declared.MarginAnswer.{MarginAnswer}
-use Rattle.rules.specs.declared.MarginAnswer.TheVariants.{Refused as refusedMargin, NotACondition, Ignored}
-use Rattle.rules.specs.declared.HoldUpAnswer.{HoldUpAnswer}
-use Rattle.rules.specs.declared.HoldUpAnswer.TheVariants.{Refused as refusedHoldUp, Enabled, EnabledUnless, Excluded, Blocked}
-use Rattle.rules.specs.declared.CheckAnswer.{CheckAnswer}
-use Rattle.rules.specs.declared.CheckAnswer.TheVariants.{Refused as refusedCheck, Accepts, Rejects}
+use Rattle.rules.specs.Rest.{Never as never, By as by}
+use Rattle.rules.specs.MarginAnswer.{MarginAnswer, Refused as refusedMargin, NotACondition, Ignored}
+use Rattle.rules.specs.HoldUpAnswer.{HoldUpAnswer, Refused as refusedHoldUp, Enabled, EnabledUnless, Excluded, Blocked}
+use Rattle.rules.specs.CheckAnswer.{CheckAnswer, Refused as refusedCheck, Accepts, Rejects}
 use Rattle.rules.specs.Counting.{some, lowest}
 use Rattle.rules.specs.Numbers.{◌if◌, ◌else◌, done, margin_in_numbers, hold_up_in_numbers, check_in_numbers}
 use Rattle.rules.specs.Holds.{is_condition, relation_of, record_of}

@@ -12,9 +12,8 @@ use Rattle.rules.specs.declared.Relation.{Relation}
 use Rattle.rules.specs.declared.Table.{Table}
 use Rattle.rules.specs.declared.Marking.{Marking}
 use Rattle.rules.specs.declared.Step.{Step}
-use Rattle.rules.specs.declared.Rest.{Rest}
-use Rattle.rules.specs.declared.Rest.TheVariants.{Never as rest-never, By as rest-by}
-use Rattle.rules.specs.declared.MarginAnswer.TheVariants.{Ignored}
+use Rattle.rules.specs.Rest.{Rest, Never as rest-never, By as rest-by}
+use Rattle.rules.specs.MarginAnswer.{Ignored}
 use Rattle.rules.specs.Numbers.{◌if◌, ◌else◌, first_of, margin_number, hold_up_number, check_number}
 use Rattle.rules.specs.Fields.{bytes_of}
 use Rattle.rules.specs.Judge.{relation_number, table_number, marking_number, marking_number_for, judged}

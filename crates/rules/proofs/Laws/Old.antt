@@ -11,7 +11,7 @@ use borrow.Author.Tests.{ne_eqb}
 use Rattle.rules.specs.declared.Table.{Table}
 use Rattle.rules.specs.declared.Marking.{Marking}
 use Rattle.rules.specs.declared.Step.{Step}
-use Rattle.rules.specs.declared.MarkingAnswer.{MarkingAnswer}
+use Rattle.rules.specs.Answers.{MarkingAnswer}
 use Rattle.rules.specs.Numbers.{◌if◌, ◌else◌, done}
 use Rattle.rules.specs.Holds.{is_controllable}
 use Rattle.rules.specs.Judge.{judged, event_number}

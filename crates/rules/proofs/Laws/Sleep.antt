@@ -9,7 +9,7 @@ use Rattle.std.proofs.lemmas.List.{length-map}
 use borrow.Author.Tests.{eqb-true, ne_eqb, ltb-false, le-ltb}
 use Rattle.rules.specs.declared.Table.{Table}
 use Rattle.rules.specs.declared.Marking.{Marking}
-use Rattle.rules.specs.declared.CheckAnswer.TheVariants.{Refused, Accepts}
+use Rattle.rules.specs.CheckAnswer.{Refused, Accepts}
 use Rattle.rules.specs.Counting.{repeated}
 use Rattle.rules.specs.Numbers.{◌if◌, ◌else◌, check_number}
 use Rattle.rules.specs.Holds.{most_events, record_of}

@@ -13,7 +13,7 @@ use borrow.Author.Tests.{eqb-true, ne_eqb, le-leb, lt-ltb, ltb-false}
 use Rattle.rules.specs.declared.Table.{Table}
 use Rattle.rules.specs.declared.Marking.{Marking}
 use Rattle.rules.specs.declared.Step.{Step}
-use Rattle.rules.specs.declared.MarkingAnswer.{MarkingAnswer}
+use Rattle.rules.specs.Answers.{MarkingAnswer}
 use Rattle.rules.specs.Numbers.{◌if◌, done, check_number}
 use Rattle.rules.specs.Judge.{judged}
 use Rattle.rules.specs.Effect.{effect}

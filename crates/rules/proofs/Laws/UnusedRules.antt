@@ -10,7 +10,7 @@ use Rattle.rules.specs.declared.Relation.{Relation}
 use Rattle.rules.specs.declared.Table.{Table}
 use Rattle.rules.specs.declared.Record.{Record}
 use Rattle.rules.specs.declared.Marking.{Marking}
-use Rattle.rules.specs.declared.CheckAnswer.{CheckAnswer}
+use Rattle.rules.specs.CheckAnswer.{CheckAnswer}
 use Rattle.rules.specs.Counting.{some, lowest, repeated, each_below}
 use Rattle.rules.specs.Numbers.{first_of}
 use Rattle.rules.specs.EventSet.{has, set_of, with_event}

@@ -1,49 +1,38 @@
 -- Judged first, then the ticks until the nearest date, by words.
-use mathlib.Core.Path.{◌≡◌, ◌∙◌, ap, sym, refl}
-use Prim.Native.Nat.{ℕ}
-use native.Mathlib.Omega.{arith}
+use Rattle.std.proofs.Common.{◌≡◌, ◌∙◌, Err, rules, ℕ, ap, sym, refl, arith}
 use borrow.Author.Tests.{ne_eqb}
-use Rattle.rules.specs.declared.TicksAnswer.{TicksAnswer}
+use Rattle.rules.specs.declared.Table.{Table}
+use Rattle.rules.specs.declared.Marking.{Marking}
+use Rattle.rules.specs.declared.refusal.Refusal.{Refusal}
 use Rattle.rules.specs.Judge.{judged}
-use Rattle.rules.specs.Sleep.{most_ticks}
-use Rattle.rules.specs.Quiet.{quiet_ticks, quiet_answer}
-use Rattle.rules.proofs.Laws.Judge.{judged_by}
-use Rattle.acts.specs.Laws.Judging.{unused, table_good, few_records, some_events, laid_out}
+use Rattle.rules.specs.Quiet.{quiet_answer}
+use Rattle.rules.specs.Results.{refusal_number, as_ticks}
+use Rattle.rules.proofs.Laws.Results.{refused_number}
+use Rattle.acts.specs.Laws.Judging.{table_good, few_records, some_events}
+use Rattle.sleep.specs.Laws.Passing.{stands_laid}
 use Rattle.sleep.proofs.quiet.Goals as goal
 
-abbrev told : ℕ → ℕ → TicksAnswer
-told number ticks = record { number = number; ticks = ticks }
-
-pub lay-requires : goal.lay-requires
-lay-requires c =
-    let number : c.then_marking-number.result ≡ judged c.args.t c.args.m = judged_by _ _ c.judge_table.ensures c.then_marking-number.ensures in
-    let granted : judged c.args.t c.args.m ≡ 0 = sym (number) ∙ c.if-number-eq0.true in
-    record {
-      events_bound = few_records _ _ (granted);
-      sets_len = (refl, refl);
-    }
-
-pub quiet-ticks-requires : goal.quiet-ticks-requires
-quiet-ticks-requires c =
-    let number : c.then_marking-number.result ≡ judged c.args.t c.args.m = judged_by _ _ c.judge_table.ensures c.then_marking-number.ensures in
-    let granted : judged c.args.t c.args.m ≡ 0 = sym (number) ∙ c.if-number-eq0.true in
-    let d = granted in
-    (some_events _ _ d, (table_good _ _ d).few_events, omega arith, omega arith)
-
-pub returns-then-number-eq0 : goal.returns-then-number-eq0
+refused : (t : Table) (m : Marking) (refusal : Refusal) → refusal_number refusal ≡ judged t m → as_ticks (Err refusal) ≡ quiet_answer t m
 unfolding quiet_answer
-returns-then-number-eq0 c =
-    let number : c.then_marking-number.result ≡ judged c.args.t c.args.m = judged_by _ _ c.judge_table.ensures c.then_marking-number.ensures in
-    let granted : judged c.args.t c.args.m ≡ 0 = sym (number) ∙ c.if-number-eq0.true in
-    let a = c.args in
-    let d = granted in
-    let found : told 0 c.quiet-ticks.result ≡ told 0 (quiet_ticks a.m most_ticks) =
-    ap (told 0) (c.quiet-ticks.ensures.value (unused a.m) a.m (laid_out a.t a.m d c.lay.ensures)) in
-    rw d found
+refused t m refusal same = rw (← same, ne_eqb _ 0 (refused_number refusal)) refl
+
+pub returns-in_err-judge : goal.returns-in_err-judge
+returns-in_err-judge c =
+    let is : c.from_residual.result ≡ Err c.in_err-judge.field-0.0 = search rules in
+    ap as_ticks is ∙ refused _ _ _ c.in_err-judge.ensures
+
+pub of-marking-requires : goal.of-marking-requires
+of-marking-requires c = few_records _ _ (sym c.in_ok-judge.ensures)
+
+pub quiet-requires : goal.quiet-requires
+quiet-requires c =
+    let d = sym c.in_ok-judge.ensures in
+    (some_events _ _ d, (table_good _ _ d).few_events, omega arith)
 
 pub returns : goal.returns
 unfolding quiet_answer
 returns c =
-    let number : c.then_marking-number.result ≡ judged c.args.t c.args.m = judged_by _ _ c.judge_table.ensures c.then_marking-number.ensures in
-    let j = number in
-    rw j (rw (ne_eqb _ 0 (λ e. c.if-number-eq0.false (j ∙ e))))
+    let d = sym c.in_ok-judge.ensures in
+    let laid = c.of-marking.ensures in
+    rw d (ap (λ (n : ℕ). record { number = 0; ticks = n })
+    (c.quiet.ensures.value _ _ (stands_laid c.args.t.now c.args.m.now d c.of-marking.result laid.clock laid.stand)))

@@ -7,15 +7,16 @@ use Rattle.std.proofs.lemmas.List.Edits.{sets-eq}
 use borrow.Author.Tests.{ne_eqb, lt-ltb, le-ltb, leb-true, leb-false}
 use Rattle.rules.specs.declared.Table.{Table}
 use Rattle.rules.specs.declared.Marking.{Marking}
-use Rattle.rules.specs.declared.CheckAnswer.TheVariants.{Refused, Accepts, Rejects}
-use Rattle.rules.specs.declared.SleptAnswer.{SleptAnswer}
+use Rattle.rules.specs.CheckAnswer.{Refused, Accepts, Rejects}
+use Rattle.rules.specs.Answers.{SleptAnswer}
 use Rattle.rules.specs.Judge.{judged}
 use Rattle.rules.specs.Check.{verdict}
 use Rattle.rules.specs.Sleep.{most_ticks, slept, slept_caused, sleep_number, sleep_answer, place_of, places_of, sleep_list}
 use Rattle.rules.proofs.Laws.Numbers.{else_refused}
 use Rattle.rules.proofs.Laws.Check.{Said, verdict_said}
 use Rattle.rules.proofs.Laws.Sleep.{early_number, early_grants, checked, unchecked}
-use Rattle.sleep.specs.Passing.{refused_answer, put}
+use Rattle.rules.specs.Results.{refused_slept}
+use Rattle.sleep.specs.Passing.{put}
 
 -- values for which the list has room stand in its first places
 put_whole : (values list : List ℕ) → length values ≤ length list → put 0 values list ≡ values ++ drop (length values) list
@@ -28,19 +29,16 @@ module _ (t : Table) (m : Marking) (ticks : ℕ) (list : List ℕ) where
   abbrev pub Ends : SleptAnswer → List ℕ → Type 0
   Ends answer after = (answer ≡ sleep_answer t m ticks (length list)) × (after ≡ sleep_list t m ticks list)
 
-  pub answers : {answer told : SleptAnswer} {after : List ℕ} → answer ≡ told → Ends told after → Ends answer after
-  answers e ends = (e ∙ ends.0, ends.1)
-
   -- before the check: a number of the judge, or more ticks than the limit
-  early : {number : ℕ} → number ≡ early_number t m ticks → (number ≡ 0 → ⊥) → Ends (refused_answer number 0 0 m) list
+  early : {number : ℕ} → number ≡ early_number t m ticks → (number ≡ 0 → ⊥) → Ends (refused_slept number 0 0 m) list
   unfolding sleep_answer sleep_number sleep_list
   early {number} e h =
       rw (unchecked t m ticks e h, else_refused {a = number} _ h, ne_eqb number 0 h) (refl, refl)
 
-  pub unjudged : {number : ℕ} → number ≡ judged t m → (number ≡ 0 → ⊥) → Ends (refused_answer number 0 0 m) list
+  pub unjudged : {number : ℕ} → number ≡ judged t m → (number ≡ 0 → ⊥) → Ends (refused_slept number 0 0 m) list
   unjudged {number} e h = early (e ∙ sym (else_refused {a = judged t m} _ (λ z. h (e ∙ z)))) h
 
-  pub too_many : judged t m ≡ 0 → most_ticks < ticks → Ends (refused_answer 14 0 0 m) list
+  pub too_many : judged t m ≡ 0 → most_ticks < ticks → Ends (refused_slept 14 0 0 m) list
   too_many judged_done many = early (sym (rw (judged_done, lt-ltb most_ticks ticks many))) (λ z. omega (arith, z))
 
   -- by the check
@@ -48,13 +46,13 @@ module _ (t : Table) (m : Marking) (ticks : ℕ) (list : List ℕ) where
     pub never : {answer : SleptAnswer} {number : ℕ} → verdict t m ≡ Refused number → Ends answer list
     never e = absurd (subst Said e (verdict_said t m))
 
-    pub rejected : {reason place : ℕ} → verdict t m ≡ Rejects reason place → Ends (refused_answer 12 reason place m) list
+    pub rejected : {reason place : ℕ} → verdict t m ≡ Rejects reason place → Ends (refused_slept 12 reason place m) list
     unfolding sleep_answer sleep_number sleep_list
     rejected e = rw (checked t m ticks (early_grants t m ticks judged_done few), e) (refl, refl)
 
     module _ (accepts : verdict t m ≡ Accepts) where
       -- and by the room
-      pub short : leb (length (slept_caused t m ticks)) (length list) ≡ false → Ends (refused_answer 14 0 0 m) list
+      pub short : leb (length (slept_caused t m ticks)) (length list) ≡ false → Ends (refused_slept 14 0 0 m) list
       unfolding sleep_answer sleep_number sleep_list
       short h =
           rw (

@@ -3,4 +3,4 @@ use Rattle.rules.proofs.Laws.Bitwise.{has_or}
 use Rattle.acts.proofs.effect.included_after.Goals as goal
 
 pub returns : goal.returns
-returns c x = rw (has_or, has_or, c.without.ensures x)
+returns c x = rw (has_or, has_or, c.without.ensures x, c.word.ensures, c.word-2.ensures, c.word-3.ensures)

@@ -3,4 +3,4 @@ use Rattle.rules.proofs.Laws.Bitwise.{has_or}
 use Rattle.acts.proofs.effect.pending_after.Goals as goal
 
 pub returns : goal.returns
-returns c x = rw (has_or, has_or)
+returns c x = rw (has_or, has_or, c.word.ensures, c.word-2.ensures)

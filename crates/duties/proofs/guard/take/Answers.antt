@@ -1,33 +1,30 @@
 -- By whether the event is included.
-use mathlib.Core.Path.{◌∙◌, sym}
-use native.Mathlib.Omega.{arith}
-use Rattle.rules.specs.Effect.{effect}
-use Rattle.acts.specs.Laws.Linked.{derived_own}
+use mathlib.Core.Path.{◌∙◌, subst, sym}
+use Rattle.acts.specs.Words.{StandFor}
+use Rattle.acts.specs.Laws.Happen.{head_firm}
 use Rattle.duties.specs.Laws.Sets.{included_told}
-use Rattle.duties.specs.Laws.Taking.{taken_in, taken_out}
+use Rattle.duties.specs.Laws.Taking.{taken_goes, taken_stays}
 use Rattle.duties.proofs.guard.take.Goals as goal
 
-pub returns-then-has_event : goal.returns-then-has_event
-returns-then-has_event c =
-    record {
-      upper_bound = omega arith;
-      taken_one = λ t tail m good derived linked b firm stands. (
-        effect t m c.args.e,
-        c.effect.ensures t tail m good (derived_own t _ _ _ _ derived linked c.requires.count_bound.1) b firm stands,
-        taken_in t m _ _ _
-            (sym (included_told _ tail _ c.args.sets.now c.args.columns.now m stands _ b) ∙ sym c.has_event.ensures
-            ∙ c.if-has_event.true),
-      );
-    }
+pub returns-then-included-clause-executed : goal.returns-then-included-clause-executed
+returns-then-included-clause-executed c = λ t tail m of b stands.
+    let words = c.args.marking.now in
+    c.has_event-included.ensures ∙ included_told _ tail _ words.sets words.columns m stands _ b
 
-pub returns : goal.returns
-returns c =
-    record {
-      upper_bound = omega arith;
-      taken_one = λ t tail m good derived linked b firm stands. (
-        m,
-        stands,
-        taken_out t m _ _ _
-            (sym (included_told _ tail _ c.args.sets.now c.args.columns.now m stands _ b) ∙ sym c.has_event.ensures ∙ c.if-has_event.false),
-      );
-    }
+pub returns-then-included-clause-stand : goal.returns-then-included-clause-stand
+returns-then-included-clause-stand c = λ t tail m of b stands.
+    let words = c.args.marking.now in
+    let goes = sym (included_told _ tail _ words.sets words.columns m stands _ b) ∙ sym c.has_event-included.ensures ∙ c.if-included.true in
+    subst (StandFor t.events tail c.execute.new.self) (taken_goes t m c.args.e goes)
+    (c.execute.ensures.stand t tail m (c.row.ensures t of) b (head_firm _ t of.rows.headed) stands)
+
+pub returns-else-included-clause-executed : goal.returns-else-included-clause-executed
+returns-else-included-clause-executed c = λ t tail m of b stands.
+    let words = c.args.marking.now in
+    c.has_event-included.ensures ∙ included_told _ tail _ words.sets words.columns m stands _ b
+
+pub returns-else-included-clause-stand : goal.returns-else-included-clause-stand
+returns-else-included-clause-stand c = λ t tail m of b stands.
+    let words = c.args.marking.now in
+    let stays = sym (included_told _ tail _ words.sets words.columns m stands _ b) ∙ sym c.has_event-included.ensures ∙ c.if-included.false in
+    subst (StandFor t.events tail words) (taken_stays t m c.args.e stays) stands

@@ -6,7 +6,7 @@ use Rattle.duties.specs.Laws.Followed.{awaited_reached}
 use Rattle.duties.proofs.inhibition.cyclic.Goals as goal
 
 pub returns : goal.returns
-returns c = λ t g f b.
+returns c = λ t of b.
     c.has_event.ensures
     ∙ ap (λ (w : ℕ). has w c.args.e)
-    (awaited_reached t g c.args.words.now f c.args.e c.reached.result c.requires c.reached.ensures)
+    (awaited_reached t of.good c.args.following.now.words of.followed c.args.e c.reached.result c.requires c.reached.ensures)

@@ -1,84 +1,38 @@
 -- What is cleared is on no cycle, and no event of the set is reached from its own inhibitors but among those that are left.
 use mathlib.Core.Path.{◌≡◌, ◌∙◌, sym}
-use Prim.Native.Nat.{◌<◌, ◌^◌}
-use native.Mathlib.Omega.{arith}
+use mathlib.Core.Bool.{Bool, true}
+use Prim.Native.Nat.{ℕ, ◌<◌, ◌^◌}
 use Rattle.rules.specs.declared.Table.{Table}
 use Rattle.rules.specs.EventSet.{has}
-use Rattle.rules.specs.Check.{on_cycle}
-use Rattle.rules.proofs.Laws.Counting.{Found}
-use Rattle.rules.proofs.Laws.Time.{one_shifted}
-use Rattle.rules.specs.Shapes.Good.{GoodTable}
+use Rattle.rules.specs.Check.{awaited, on_cycle}
 use Rattle.rules.proofs.Laws.Widened.{has_below}
-use Rattle.duties.specs.Inhibition.{Followed}
-use Rattle.acts.specs.Laws.Members.{lowest_found, lowest_worth, lowest_less}
 use Rattle.duties.specs.Laws.Cleared.{cleared_off}
-use Rattle.duties.specs.Laws.Search.{searched_but, searched_none, searched_here, searched_on}
+use Rattle.duties.specs.Laws.Search.{Searched, searched_but, searched_none, searched_here, searched_on}
 use Rattle.duties.proofs.inhibition.first_cyclic.Goals as goal
 
-pub cleared-requires : goal.cleared-requires
-cleared-requires c = tt
-
-pub without-left-requires : goal.without-left-requires
-without-left-requires c = tt
-
-pub loop-left-init : goal.loop-left-init
+-- an event that is left is on a cycle if it is reached from its inhibitors
+is_cyclic : (t : Table) (set : ℕ) {left : ℕ} → set < 2 ^ t.events → Searched (on_cycle t set) set left → (e : ℕ) → has left e ≡ true
+    → {cyclic : Bool} → (e < t.events → cyclic ≡ has (awaited t e) e) → on_cycle t set e ≡ cyclic
 unfolding on_cycle
-loop-left-init c = (
-  c.without-left.type_inv,
-  λ t g d f.
-      searched_but _ c.args.set c.cleared.result _ (λ x h. rw h)
-      (λ x h o. rw h (cleared_off c.args.words.now c.cleared.ensures t g d x (has_below 64 _ x c.ranges.set.fits h) o))
-      c.without-left.ensures,
-)
+is_cyclic t set fits s e inside told = let there = s.within e inside in rw there (sym (told (has_below t.events set e fits there)))
 
-pub lowest-e-requires : goal.lowest-e-requires
-lowest-e-requires c = tt
-
-pub cyclic-requires : goal.cyclic-requires
-cyclic-requires c =
-    let event : Found (has c.loop-left.left) 64 c.lowest-e.result = lowest_found _ c.loop-left.invariant.0 c.loop-left-test.true _ c.lowest-e.ensures in
-    (event).small
+pub loop-e-init : goal.loop-e-init
+unfolding on_cycle
+loop-e-init c = λ t of f.
+    rw (c.into_iter-e-iterator.ensures.into_iter_gives, c.of-e-items.ensures)
+    (searched_but _ c.args.set c.cleared.result _ (λ x h. rw h)
+    (λ x h o. rw h (cleared_off c.args.following.now.words c.cleared.ensures t of.good of.followed x (has_below 64 _ x c.ranges.set.fits h) o))
+    c.without.ensures)
 
 pub returns-then-cyclic : goal.returns-then-cyclic
-unfolding on_cycle
-returns-then-cyclic c =
-    let event : Found (has c.loop-left.left) 64 c.lowest-e.result = lowest_found _ c.loop-left.invariant.0 c.loop-left-test.true _ c.lowest-e.ensures in
-    let told : (t : Table) → GoodTable t → Followed t t.count c.args.words.now → c.args.set < 2 ^ t.events
-    → on_cycle t c.args.set c.lowest-e.result ≡ c.cyclic.result = λ t g d f. let inside =
-    (c.loop-left.invariant.1 t g d f).within _ (event).holds in rw inside (sym (c.cyclic.ensures t g d (has_below t.events _ _ f inside))) in
-    λ t g d f.
-    searched_here (c.loop-left.invariant.1 t g d f) c.loop-left.invariant.0 c.loop-left-test.true _ c.lowest-e.ensures
-    (told t g d f ∙ c.if-cyclic.true)
+returns-then-cyclic c = λ t of f.
+    let s = c.loop-e.invariant t of f in
+    searched_here s c.in-Some.ensures.steps (is_cyclic t c.args.set f s _ c.in-Some.ensures.steps.inside (c.cyclic.ensures t of) ∙ c.if-cyclic.true)
 
-pub overflow_shl-left : goal.overflow_shl-left
-overflow_shl-left c =
-    let event : Found (has c.loop-left.left) 64 c.lowest-e.result = lowest_found _ c.loop-left.invariant.0 c.loop-left-test.true _ c.lowest-e.ensures in
-    omega (arith, (event).small)
-
-pub overflow_sub-left : goal.overflow_sub-left
-overflow_sub-left c =
-    let event : Found (has c.loop-left.left) 64 c.lowest-e.result = lowest_found _ c.loop-left.invariant.0 c.loop-left-test.true _ c.lowest-e.ensures in
-    rw (one_shifted _ (event).small)
-    (lowest_worth _ c.loop-left.invariant.0 c.loop-left-test.true _ c.lowest-e.ensures)
-
-pub loop-left-smaller : goal.loop-left-smaller
-loop-left-smaller c =
-    let event : Found (has c.loop-left.left) 64 c.lowest-e.result = lowest_found _ c.loop-left.invariant.0 c.loop-left-test.true _ c.lowest-e.ensures in
-    rw (one_shifted _ (event).small) (lowest_less _ c.loop-left.invariant.0 c.loop-left-test.true _ c.lowest-e.ensures)
-
-pub loop-left-preserved : goal.loop-left-preserved
-unfolding on_cycle
-loop-left-preserved c =
-    let event : Found (has c.loop-left.left) 64 c.lowest-e.result = lowest_found _ c.loop-left.invariant.0 c.loop-left-test.true _ c.lowest-e.ensures in
-    let told : (t : Table) → GoodTable t → Followed t t.count c.args.words.now → c.args.set < 2 ^ t.events
-    → on_cycle t c.args.set c.lowest-e.result ≡ c.cyclic.result = λ t g d f. let inside =
-    (c.loop-left.invariant.1 t g d f).within _ (event).holds in rw inside (sym (c.cyclic.ensures t g d (has_below t.events _ _ f inside))) in
-    rw (one_shifted _ (event).small) (
-      omega (arith, c.loop-left.invariant.0),
-      λ t g d f.
-          searched_on (c.loop-left.invariant.1 t g d f) c.loop-left.invariant.0 c.loop-left-test.true _ c.lowest-e.ensures
-          (told t g d f ∙ c.if-cyclic.false),
-    )
+pub loop-e-preserved : goal.loop-e-preserved
+loop-e-preserved c = λ t of f.
+    let s = c.loop-e.invariant t of f in
+    searched_on s c.in-Some.ensures.steps (is_cyclic t c.args.set f s _ c.in-Some.ensures.steps.inside (c.cyclic.ensures t of) ∙ c.if-cyclic.false)
 
 pub returns : goal.returns
-returns c = λ t g d f. searched_none (c.loop-left.invariant.1 t g d f) c.loop-left-test.false
+returns c = λ t of f. searched_none (c.loop-e.invariant t of f) c.in-None.ensures.steps

@@ -2,14 +2,9 @@
 use Prim.Native.Nat.{◌<◌, ◌^◌}
 use Rattle.rules.specs.declared.Table.{Table}
 use Rattle.rules.specs.Check.{on_cycle}
-use Rattle.rules.specs.Shapes.Good.{GoodTable}
-use Rattle.duties.specs.Inhibition.{Followed}
+use Rattle.duties.specs.Inhibition.{FollowingOf}
 use Rattle.duties.specs.Laws.Search.{Searched}
 use Rattle.duties.proofs.inhibition.first_cyclic.Given as goal
 
-abbrev pub invariant-loop-left : goal.invariant-loop-left
-invariant-loop-left l =
-    (l.left < 2 ^ 64) × ((t : Table) → GoodTable t → Followed t t.count l.words → l.set < 2 ^ t.events → Searched (on_cycle t l.set) l.set l.left)
-
-abbrev pub decreases-loop-left : goal.decreases-loop-left
-decreases-loop-left l = l.left
+abbrev pub invariant-loop-e : goal.invariant-loop-e
+invariant-loop-e l = (t : Table) → FollowingOf t l.following → l.set < 2 ^ t.events → Searched (on_cycle t l.set) l.set l.e-iterator.left

@@ -1,11 +1,6 @@
 -- Of the events passed, those without an inhibitor are found and the others are noted with their inhibitors; those left are to come. Assumes
 -- nothing.
-use mathlib.Core.Path.{◌≡◌}
-use mathlib.Core.Bool.{Bool, ◌&&◌, ◌||◌}
-use mathlib.Core.List.{List}
-use Prim.Native.Nat.{ℕ, ◌<◌, ◌^◌}
-use lib.Dec.{eqb}
-use lib.ListN.{length, get_or}
+use Rattle.std.specs.Prelude.{◌≡◌, Bool, ◌&&◌, ◌||◌, List, ℕ, ◌<◌, eqb, length, get_or}
 use Rattle.rules.specs.EventSet.{has}
 use Rattle.duties.specs.Inhibition.{followed_in, ready_in}
 use Rattle.duties.specs.Laws.Ready.{waits_for}
@@ -15,12 +10,9 @@ use Rattle.duties.proofs.ready.ready.Given as goal
 abbrev pub is_free : List ℕ → ℕ → ℕ → Bool
 is_free rows set e = eqb (followed_in rows set set e) 0
 
-abbrev pub invariant-loop-left : goal.invariant-loop-left
-invariant-loop-left l =
-    (l.left < 2 ^ 64) × (length l.waiting ≡ 64)
-    × ((x : ℕ) → (has l.found x || (has l.left x && is_free l.rows l.set x)) ≡ ready_in l.rows l.set x)
-    × ((x : ℕ) → x < 64 → (e : ℕ) → (has (get_or l.waiting x 0) e || (has l.left e && waits_for l.rows l.set x e)) ≡ (has l.set e && waits_for l.rows
-    l.set x e))
-
-abbrev pub decreases-loop-left : goal.decreases-loop-left
-decreases-loop-left l = l.left
+abbrev pub invariant-loop-e : goal.invariant-loop-e
+invariant-loop-e l =
+    (length l.waiting ≡ 64)
+    × ((x : ℕ) → (has l.found x || (has l.e-iterator.left x && is_free l.rows.words l.set x)) ≡ ready_in l.rows.words l.set x)
+    × ((x : ℕ) → x < 64 → (e : ℕ) → (has (get_or l.waiting x 0) e || (has l.e-iterator.left e && waits_for l.rows.words l.set x e))
+    ≡ (has l.set e && waits_for l.rows.words l.set x e))

@@ -1,37 +1,56 @@
 -- One step, by its kind.
-use mathlib.Core.Logic.{inl, inr}
-use native.Mathlib.Omega.{arith}
-use Rattle.acts.specs.Laws.Linked.{derived_own}
-use Rattle.duties.specs.Laws.Step.{happen_turned, wrong_turned, tick_turned}
+use Rattle.std.proofs.Common.{◌≡◌, Err, rules, ap, sym, arith}
+use Rattle.rules.specs.Results.{number_of}
+use Rattle.rules.proofs.Laws.Results.{refused_number}
+use Rattle.rules.proofs.Laws.Trace.{wrong_event, wrong_kind}
+use Rattle.acts.specs.declared.derived.Head.{Head}
+use Rattle.duties.specs.Laws.Sets.{stands_of}
+use Rattle.duties.specs.Laws.Step.{happen_turned, wrong_turned, plain_turned, plain_done, guarded_turned, guarded_done}
 use Rattle.duties.proofs.step.step.Goals as goal
-use Rattle.duties.proofs.step.step.Goals.{then-e-ne0-via-then-e-ne0, then-e-ne0-via-else-e-ne0+then-kind-gt-GUARDED_TICK}
+use Rattle.duties.proofs.step.step.Goals.{in-2+in_ok-plain_tick-in-2, in-3+in_ok-guarded_tick-in-3}
 
-pub returns-then-kind-le-LAST_HAPPEN : goal.returns-then-kind-le-LAST_HAPPEN
-returns-then-kind-le-LAST_HAPPEN c =
-    let a = c.args in record {
-      clock_bound = omega arith;
-      turned = λ t tail m good derived linked head accepts stands.
-          happen_turned a.kind a.event c.if-kind-le-LAST_HAPPEN.true
-          (c.happen-number.ensures t tail m good head (λ b. derived_own t _ _ _ _ derived linked (omega (arith, b, good.few_events))) stands);
-    }
+pub returns-in-0-to-1-clause-turned : goal.returns-in-0-to-1-clause-turned
+returns-in-0-to-1-clause-turned c = λ t tail m of sure stands.
+    happen_turned c.args.step (omega (arith, c.in-0-to-1)) (c.happen.ensures.number t tail m of stands) (c.happen.ensures.stand t tail m of stands)
 
-pub returns-then-e-ne0 : goal.returns-then-e-ne0
-returns-then-e-ne0 c =
-    let a = c.args in record {
-      clock_bound = omega arith;
-      turned = λ t tail m good derived linked head accepts stands.
-          wrong_turned a.kind a.event c.if-kind-le-LAST_HAPPEN.false
-          (elim c.then-e-ne0.branch [
-            | then-e-ne0-via-then-e-ne0 w ↦ inl w.if-e-ne0.true
-            | then-e-ne0-via-else-e-ne0+then-kind-gt-GUARDED_TICK w ↦ inr w.if-kind-gt-GUARDED_TICK.true
-          ]) stands;
-    }
+pub returns-in_err-plain_tick-in-2-clause-turned : goal.returns-in_err-plain_tick-in-2-clause-turned
+returns-in_err-plain_tick-in-2-clause-turned c = λ t tail m of sure stands.
+    let is : c.from_residual.result ≡ Err c.in_err-plain_tick-in-2.field-0.0 = search rules in
+    let events = ap (λ (h : Head). h.events) of.rows.headed in
+    rw (ap number_of is)
+    (plain_turned c.args.step c.if-e-eq0.true c.in-2.is (c.in_err-plain_tick-in-2.ensures.number tail m (stands_of (sym events) stands))
+    (refused_number c.in_err-plain_tick-in-2.field-0.0)
+    (stands_of events (c.in_err-plain_tick-in-2.ensures.stand tail m (stands_of (sym events) stands))))
 
-pub returns : goal.returns
-returns c =
-    record {
-      clock_bound = c.tick_step.ensures.clock_bound;
-      turned = λ t tail m good derived linked head accepts stands.
-          tick_turned c.if-kind-le-LAST_HAPPEN.false c.if-kind-gt-GUARDED_TICK.false c.if-e-ne0.false
-          (c.tick_step.ensures.turned t tail m good derived linked head accepts stands);
-    }
+pub returns-in_err-guarded_tick-in-3-clause-turned : goal.returns-in_err-guarded_tick-in-3-clause-turned
+returns-in_err-guarded_tick-in-3-clause-turned c = λ t tail m of sure stands.
+    let is : c.from_residual-in_err-guarded_tick-in-3.result ≡ Err c.in_err-guarded_tick-in-3.field-0.0 = search rules in
+    rw (ap number_of is)
+    (guarded_turned c.args.step c.if-e-eq0-2.true c.in-3.is (c.in_err-guarded_tick-in-3.ensures.number t tail m of sure stands)
+    (refused_number c.in_err-guarded_tick-in-3.field-0.0) (c.in_err-guarded_tick-in-3.ensures.stand t tail m of sure stands))
+
+pub returns-in_default-clause-turned : goal.returns-in_default-clause-turned
+returns-in_default-clause-turned c = λ t tail m of sure stands.
+    wrong_turned c.args.step (wrong_event c.args.step.kind c.args.step.event (omega (arith, c.in-2.is)) c.if-e-eq0.false) stands
+
+pub returns-in_default-2-clause-turned : goal.returns-in_default-2-clause-turned
+returns-in_default-2-clause-turned c = λ t tail m of sure stands.
+    wrong_turned c.args.step (wrong_event c.args.step.kind c.args.step.event (omega (arith, c.in-3.is)) c.if-e-eq0-2.false) stands
+
+pub returns-in_default-3-clause-turned : goal.returns-in_default-3-clause-turned
+returns-in_default-3-clause-turned c = λ t tail m of sure stands.
+    wrong_turned c.args.step (wrong_kind c.args.step.kind c.args.step.event (omega (arith, c.in_default))) stands
+
+pub returns-clause-turned : goal.returns-clause-turned
+returns-clause-turned c = λ t tail m of sure stands.
+    let events = ap (λ (h : Head). h.events) of.rows.headed in
+    elim c.match-step.branch [
+      | in-2+in_ok-plain_tick-in-2 w ↦
+          rw w.marking-is
+          (plain_done c.args.step w.if-e-eq0.true _ (search rules) w.in-2.is (w.in_ok-plain_tick-in-2.ensures.number tail m (stands_of (sym events) stands))
+          (stands_of events (w.in_ok-plain_tick-in-2.ensures.stand tail m (stands_of (sym events) stands))))
+      | in-3+in_ok-guarded_tick-in-3 w ↦
+          rw w.marking-is
+          (guarded_done c.args.step w.if-e-eq0-2.true _ (search rules) w.in-3.is
+          (w.in_ok-guarded_tick-in-3.ensures.number t tail m of sure stands) (w.in_ok-guarded_tick-in-3.ensures.stand t tail m of sure stands))
+    ]

@@ -1,62 +1,39 @@
--- `image::marking::put_records` meets its contract: after i turns the first i records stand in the buffer, and the rest is as it was.
-use mathlib.Core.Path.{◌≡◌, refl, sym, ap, ◌∙◌}
-use Prim.Native.Nat.{◌≤◌, ◌*◌}
-use native.Mathlib.Nat.{zero-add}
-use native.Mathlib.Omega.{arith}
-use borrow.Author.Rules.{rules}
-use lib.ListN.{length}
-use Rattle.rules.specs.Holds.{most_events}
-use Rattle.rules.specs.Image.{record_bytes}
-use Rattle.rules.proofs.Laws.Pieces.{standing_none, standing_length, standing_more}
+-- `image::marking::put_records` meets its contract: after e turns the first e records stand in the buffer, and the rest is as it was.
+use Rattle.std.proofs.Common.{◌≡◌, sym, ap, ◌∙◌, arith, zero-add, get_or-take, ◌*◌}
+use Rattle.rules.specs.Holds.{empty_record}
+use Rattle.rules.specs.Image.{record_bytes, record_image}
+use Rattle.rules.specs.Judge.{record_number}
+use Rattle.rules.proofs.Laws.Pieces.{standing_none, standing_more}
 use Rattle.rules.proofs.Laws.Written.{records_sized}
 use Rattle.image.specs.Laws.Parts.{events_few, record_done}
+use Rattle.image.specs.Laws.Slices.{put_from_to, length_from_to}
 use Rattle.image.proofs.marking.put_records.Goals as goal
 
-pub loop-i-init : goal.loop-i-init
-loop-i-init c = (search rules, search rules, standing_none (records_sized c.args.m) _ 0)
+pub shared_ref_as_front-r-items : goal.shared_ref_as_front-r-items
+shared_ref_as_front-r-items c = events_few c.args.m.now c.requires.0
 
-pub offset_bounds-m-i : goal.offset_bounds-m-i
-offset_bounds-m-i c =
-    let few : c.args.m.events ≤ most_events = events_few c.args.m c.requires.0 in
-    omega (arith, few)
-
-pub bounds-m-i : goal.bounds-m-i
-bounds-m-i c =
-    let few : c.args.m.events ≤ most_events = events_few c.args.m c.requires.0 in
-    omega (arith, few)
-
-pub overflow_mul-i : goal.overflow_mul-i
-overflow_mul-i c =
-    let few : c.args.m.events ≤ most_events = events_few c.args.m c.requires.0 in
-    omega (arith, few)
+pub loop-e-init : goal.loop-e-init
+loop-e-init c = standing_none (records_sized c.args.m.now) _ 0
 
 pub put_record-requires : goal.put_record-requires
 put_record-requires c =
-    let long : length c.loop-i.buffer ≡ length c.args.buffer.now = let a = c.args in ap length c.loop-i.invariant.2
-    ∙ standing_length (records_sized a.m) a.buffer.now 0 c.loop-i.i (omega arith) in
-    (record_done _ c.requires.0 _ (omega arith), rw (long) (omega arith))
+    let m = c.args.m.now in
+    let e = c.loop-e.e in (
+      ap record_number (get_or-take m.events m.records e empty_record (omega arith)) ∙ record_done m c.requires.0 e (omega arith),
+      length_from_to (record_bytes * e) record_bytes c.loop-e.buffer (omega (arith, c.loop-e.auto.buffer)),
+    )
 
-pub overflow_add-i : goal.overflow_add-i
-overflow_add-i c =
-    let few : c.args.m.events ≤ most_events = events_few c.args.m c.requires.0 in
-    omega (arith, few)
-
-pub loop-i-preserved : goal.loop-i-preserved
-loop-i-preserved c =
-    let a = c.args in
-    let place = sym (zero-add (record_bytes * c.loop-i.i)) in
-    let more =
-    standing_more (records_sized a.m) a.buffer.now 0 _ c.loop-i.i (omega arith) place c.loop-i.invariant.2 refl c.put_record.ensures in
-    (omega arith, search rules, more)
-
-pub shape_of-buffer : goal.shape_of-buffer
-shape_of-buffer c =
-    let long : length c.loop-i.buffer ≡ length c.args.buffer.now = let a = c.args in ap length c.loop-i.invariant.2
-    ∙ standing_length (records_sized a.m) a.buffer.now 0 c.loop-i.i (omega arith) in
-    long
+pub loop-e-preserved : goal.loop-e-preserved
+loop-e-preserved c =
+    let m = c.args.m.now in
+    let e = c.loop-e.e in
+    let place = sym (zero-add (record_bytes * e)) in
+    let piece = c.put_record.ensures ∙ ap record_image (get_or-take m.events m.records e empty_record (omega arith)) in
+    standing_more (records_sized m) c.args.buffer.now 0 _ e (omega arith) place c.loop-e.invariant piece
+    (put_from_to (record_bytes * e) record_bytes c.loop-e.buffer c.put_record.new.bytes)
 
 pub returns : goal.returns
 returns c =
-    let events = c.args.m.events in
-    let all : c.loop-i.i ≡ events = omega arith in
-    c.loop-i.invariant.2 ∙ rw (all, zero-add (record_bytes * events))
+    let events = c.args.m.now.events in
+    let all : c.loop-e.e ≡ events = omega arith in
+    c.loop-e.invariant ∙ rw (all, zero-add (record_bytes * events))

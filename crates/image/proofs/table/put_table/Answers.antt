@@ -1,25 +1,17 @@
 -- `image::table::put_table` meets its contract: header, classes and relations, one put behind the other, are the table's image.
-use native.Mathlib.Omega.{arith}
+use Rattle.std.proofs.Common.{ap, ◌∙◌, arith, ℕ, List, ◌++◌, drop, length-take-le}
+use Rattle.rules.specs.Fields.{bytes_of}
 use Rattle.rules.proofs.Laws.Judge.{good_table}
-use Rattle.rules.specs.Shapes.Good.{GoodTable}
 use Rattle.image.specs.Laws.Parts.{table_put}
 use Rattle.image.proofs.table.put_table.Goals as goal
 
-pub header_of-requires : goal.header_of-requires
-header_of-requires c =
-    let good : GoodTable c.args.t = good_table c.args.t c.requires.0 in
-    ((good).few_events, (good).few_relations)
-
-pub put_classes-requires : goal.put_classes-requires
-put_classes-requires c =
-    let good : GoodTable c.args.t = good_table c.args.t c.requires.0 in
-    ((good).few_events, omega arith)
-
-pub put_relations-requires : goal.put_relations-requires
-put_relations-requires c = (c.requires.0, omega arith)
+pub invariant_of-header : goal.invariant_of-header
+invariant_of-header c =
+    let good = good_table c.args.t.now c.requires.0 in
+    record { few_events = good.few_events; few_relations = good.few_relations }
 
 pub returns : goal.returns
 returns c =
-    let a = c.args in
-    table_put a.t a.buffer.now c.header_of.ensures c.put_word.ensures c.put_classes.ensures
-    c.put_relations.ensures
+    let buffer = c.args.buffer.now in
+    let header = c.put_word.ensures ∙ ap (λ (n : ℕ). bytes_of n c.word.result) (length-take-le 4 buffer (omega arith)) in
+    table_put c.args.t.now buffer c.word.ensures (ap (λ (bytes : List ℕ). bytes ++ drop 4 buffer) header) c.put_classes.ensures c.put_relations.ensures

@@ -1,32 +1,25 @@
--- A quiet run; then, if there is one more tick, a guarded tick and what it caused.
-use mathlib.Core.Path.{refl, sym, ap, ◌∙◌}
-use mathlib.Core.List.{List}
-use Prim.Native.Nat.{ℕ}
-use native.Mathlib.Omega.{arith}
-use lib.ListN.{length}
-use Rattle.acts.specs.Laws.Happen.{head_firm}
-use Rattle.sleep.specs.Laws.Passing.{put_length, same_events, stands_here, passing_quiet, passing_tick}
+-- A quiet run, and then a guarded tick.
+use Rattle.std.proofs.Common.{◌≡◌, ◌∙◌, ap, refl, arith, ◌+◌, ℕ}
+use Rattle.rules.specs.declared.Table.{Table}
+use Rattle.rules.specs.Guard.{guarded}
+use Rattle.acts.specs.declared.derived.Head.{Head}
+use Rattle.acts.specs.declared.table_words.TableWords.{TableWords}
+use Rattle.acts.specs.Words.{WordsOf}
+use Rattle.sleep.specs.Laws.Passing.{passing_asleep, passing_tick}
 use Rattle.sleep.proofs.passing.turn.Goals as goal
 
-pub returns-then-ticks-clock : goal.returns-then-ticks-clock
-returns-then-ticks-clock c =
-    let q = c.quiet-asleep in record {
-      kept = refl;
-      on = (omega arith, omega arith, omega arith);
-      passed = λ t tail m before w now. passing_quiet w now _ _ (q.ensures.value tail _ (stands_here w now));
-    }
+same_events : {t : Table} {table : TableWords} → WordsOf t table → table.rows.head.events ≡ t.events
+same_events w = ap (λ (h : Head). h.events) w.rows.headed
 
-pub returns : goal.returns
-returns c =
-    let q = c.quiet-asleep in
-    let left = c.if-ticks-clock.false in
-    let one = c.tick-tick.ensures.value in
-    let g = c.guarded-more.ensures in record {
-      kept = ap (λ (l : List ℕ). length l) c.note.ensures ∙ put_length _ _ _;
-      on = (omega (arith, one), omega (arith, one, left), omega (arith, one, g.upper_bound));
-      passed = λ t tail m before w now.
-          let woken = passing_quiet w now _ _ (q.ensures.value tail _ (stands_here w now)) in
-          passing_tick w woken one
-          (g.stands t tail _ w.good w.derived w.linked (sym (same_events w)) (head_firm _ t w.headed) refl (stands_here w woken))
-          c.note.ensures;
-    }
+pub returns-then-ticks-marking-clause-passed : goal.returns-then-ticks-marking-clause-passed
+returns-then-ticks-marking-clause-passed c = λ t tail m before w now.
+    passing_asleep w.rows.good now (same_events w) _ _ c.quiet.ensures.value
+
+pub returns-clause-passed : goal.returns-clause-passed
+unfolding guarded
+returns-clause-passed c = λ t tail m before w now.
+    let asleep = passing_asleep w.rows.good now (same_events w) _ _ c.quiet.ensures.value in
+    let acted = c.guarded-more.ensures in
+    let stood = c.pass_tick.ensures.stand _ _ _ (acted.taken t tail _ w refl asleep.stands) in
+    passing_tick w.rows.good asleep (c.pass_tick.ensures.clock ∙ ap (λ (k : ℕ). k + 1) acted.clock) stood
+    (acted.stands t tail _ w refl asleep.stands).1 c.note.ensures (omega arith)

@@ -1,5 +1,0 @@
--- The loop ends: a turn for each time.
-use Rattle.timing.proofs.lists.timing_sleep.Given as goal
-
-abbrev pub decreases-loop-times : goal.decreases-loop-times
-decreases-loop-times l = l.times

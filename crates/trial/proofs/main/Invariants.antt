@@ -1,5 +1,0 @@
--- `trial::main` is safe and ends. The measure is the number of turns that are left, and nothing has to hold from turn to turn. Assumes nothing.
-use Rattle.trial.proofs.main.Given as goal
-
-abbrev pub decreases-loop-turns : goal.decreases-loop-turns
-decreases-loop-turns l = l.turns
