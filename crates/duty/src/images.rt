@@ -62,7 +62,7 @@ pub fn on<A, E: From<Refusal>, F: FnOnce(&Images) -> Result<A, E>>(
     }
 }
 
-// The same of a rule that is lent a list besides.
+// The same of a rule that is lent a list besides: after a call nothing is known of a list that its closure captured.
 pub fn on_lent<A, E: From<Refusal>, T, F: FnOnce(&Images, &mut [T]) -> Result<A, E>>(
     table: &[u8],
     marking: &[u8],

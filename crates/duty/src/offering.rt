@@ -7,7 +7,7 @@ ghost use Rattle.rules.specs.Results.{number_of};
 use super::images::Images;
 use rules::Refusal;
 
-// 0 for the preferred list, 1 for the fallback.
+// 0 for the preferred list, 1 for the fallback. A function, and no closure in the call: one that answers a `Remedy` the borrow checker does not cover.
 pub fn remedies<'a>(
     i: &Images,
     preferred: &'a [u8],

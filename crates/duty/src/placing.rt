@@ -3,7 +3,6 @@ ghost use Rattle.std.specs.Prelude.{◌≡◌, ◌++◌, ◌≤◌, [], ltb, len
 ghost use Rattle.rules.specs.Numbers.{◌if◌, ◌else◌, done};
 ghost use Rattle.rules.specs.Results.{number_of, value_or};
 
-use super::{guarding, telling};
 use rules::Refusal;
 
 pub fn put<T: Copy>(values: &[T], places: &mut [T])

@@ -1,7 +1,7 @@
 // The loops. A loop of calls is not worked out beforehand: each call is handed something that the answers before it decide.
 use rules::{Marking, Record, Relation, Table};
 
-// What stands for a table that the reader refuses.
+// What stands for a table that the reader refuses. A constant: a `static` the borrow checker does not cover.
 pub const NO_TABLE: Table = Table {
     relations: [Relation::EMPTY; Table::MOST_RELATIONS],
     controllable: 0,

@@ -5,7 +5,7 @@ use crate::list;
 use crate::payload::{Given, Payload};
 use rules::{Marking, Refusal, Relation, Table};
 
-// What stands for a table in a refusal.
+// What stands for a table in a refusal. A constant: a `static` the borrow checker does not cover.
 const NO_TABLE: Table = Table {
     relations: [Relation::EMPTY; Table::MOST_RELATIONS],
     controllable: 0,

@@ -49,7 +49,7 @@ impl<'a> Payload<'a> {
     }
 }
 
-// A value that a call is given.
+// A value that a call is given. The numbers have an impl each: one that a macro of this repository writes is refused.
 pub trait Given {
     fn read(from: &mut Payload<'_>) -> Self;
 }

@@ -4,7 +4,7 @@ use Rattle.std.proofs.Common.{rules, ◌≡◌, ap, sym, ◌∙◌, Err}
 use Rattle.rules.specs.Results.{number_of}
 use Rattle.rules.proofs.Laws.Remedy.{remedy_judged, remedy_first_long, remedy_second_long, remedy_first, remedy_second, remedy_none}
 use Rattle.acts.specs.Laws.Judging.{unused, table_good, few_records}
-use Rattle.engine.specs.Laws.Results.{some_number}
+use Rattle.rules.proofs.Laws.Results.{refused_number}
 use Rattle.engine.specs.Laws.Judging.{stands_laid}
 use Rattle.engine.proofs.remedies.Goals as goal
 use Rattle.engine.proofs.remedies.Goals.{
@@ -16,7 +16,7 @@ pub returns-in_err-judge-clause-number : goal.returns-in_err-judge-clause-number
 returns-in_err-judge-clause-number c =
     let is : c.from_residual.result ≡ Err c.in_err-judge.field-0.0 = search rules in
     let a = c.args in
-    let e = remedy_judged a.t.now a.m.now a.preferred.now a.fallback.now c.in_err-judge.ensures (some_number c.in_err-judge.field-0.0) in
+    let e = remedy_judged a.t.now a.m.now a.preferred.now a.fallback.now c.in_err-judge.ensures (refused_number c.in_err-judge.field-0.0) in
     ap number_of is ∙ rw e
 
 pub returns-then-preferred-gt-LONGEST_LIST-clause-number : goal.returns-then-preferred-gt-LONGEST_LIST-clause-number

@@ -13,7 +13,8 @@ use Rattle.rules.specs.Station.{station, longest_output, heard_number, heard_byt
 use Rattle.duties.specs.AtStart.{AtStart}
 use Rattle.engine.specs.Heard.{Heard, after_marking}
 use Rattle.engine.specs.Laws.Heard.{by_number_lem, steps_refused, steps_granted, still_long, end_fits, steps_told}
-use Rattle.engine.specs.Laws.Results.{some_number, refused_done}
+use Rattle.engine.specs.Laws.Results.{refused_done}
+use Rattle.rules.proofs.Laws.Results.{refused_number}
 
 -- a refusal that `?` hands on
 pub heard_refused : (bytes before after : List ℕ) {r : Result ℕ Refusal} (refusal : Refusal) → r ≡ Err refusal → bytes ≡ refusal_number refusal ∷ []
@@ -41,7 +42,7 @@ module _ (t : Table) (m : Marking) (kept before : List ℕ) (room : longest_outp
   run_refused_number refusal e = ap (λ a. a.number) e
 
   pub run_heard : (refusal : Refusal) → refusal_number refusal ≡ bytes_number t m kept (length before) → after_marking t m kept 0 ≡ refusal_number refusal ∷ []
-  run_heard refusal is = steps_refused t m kept (is ∙ same_number) (some_number refusal)
+  run_heard refusal is = steps_refused t m kept (is ∙ same_number) (refused_number refusal)
 
   -- steps that were run: few enough, and the end marking fits behind their answers
   module _ (after : Marking) (now : List ℕ) (answer : record { number = 0; marking = after } ≡ run_bytes t m kept (length before))
@@ -68,7 +69,7 @@ module _ (t : Table) (m : Marking) (kept before : List ℕ) (room : longest_outp
     room_behind = omega (arith, still_long t m kept before granted room now written, few_run.1, room)
 
     pub not_refused : (refusal : Refusal) → refusal_number refusal ≡ write_number after (length (take (length now - length kept / 2) (drop (length kept / 2) now))) → ⊥
-    not_refused refusal is = some_number refusal (is ∙ end_fits t m kept before granted room now written after end)
+    not_refused refusal is = refused_number refusal (is ∙ end_fits t m kept before granted room now written after end)
 
     pub run_told : (put : List ℕ) → put ≡ write_marking after (take (length now - length kept / 2) (drop (length kept / 2) now))
         → AtStart (after_marking t m kept 0) before (length kept / 2 + record_bytes * t.events)

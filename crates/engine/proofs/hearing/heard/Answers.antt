@@ -1,6 +1,6 @@
 -- The table's part, and what follows it.
 use Rattle.std.proofs.Common.{rules, refl, subst, List, ℕ}
-use Rattle.engine.specs.Laws.Results.{some_number}
+use Rattle.rules.proofs.Laws.Results.{refused_number}
 use Rattle.engine.specs.Heard.{Heard}
 use Rattle.engine.specs.Laws.Heard.{table_refused, table_read, few_read, rest_there}
 use Rattle.engine.specs.Laws.Hearing.{heard_refused}
@@ -10,7 +10,7 @@ pub returns-in_err-t : goal.returns-in_err-t
 returns-in_err-t c =
     let refusal = c.in_err-t.field-0.0 in
     heard_refused _ _ _ refusal (search rules)
-    (table_refused c.args.input.now c.args.beyond c.requires.enough c.table_part-size.result c.table_part-size.ensures _ c.in_err-t.ensures (some_number refusal))
+    (table_refused c.args.input.now c.args.beyond c.requires.enough c.table_part-size.result c.table_part-size.ensures _ c.in_err-t.ensures (refused_number refusal))
     refl
 
 pub heard_marking-requires-clause-few : goal.heard_marking-requires-clause-few

@@ -1,6 +1,6 @@
 -- The marking's part, and what follows it.
 use Rattle.std.proofs.Common.{rules, refl, subst, List, ℕ}
-use Rattle.engine.specs.Laws.Results.{some_number}
+use Rattle.rules.proofs.Laws.Results.{refused_number}
 use Rattle.engine.specs.Heard.{Heard}
 use Rattle.engine.specs.Laws.Heard.{marking_refused, marking_read, steps_there}
 use Rattle.engine.specs.Laws.Hearing.{heard_refused}
@@ -10,7 +10,7 @@ pub returns-in_err-m : goal.returns-in_err-m
 returns-in_err-m c =
     let refusal = c.in_err-m.field-0.0 in
     heard_refused _ _ _ refusal (search rules)
-    (marking_refused c.args.t.now c.args.rest.now c.args.beyond c.min-size.result (search rules) _ c.in_err-m.ensures (some_number refusal))
+    (marking_refused c.args.t.now c.args.rest.now c.args.beyond c.min-size.result (search rules) _ c.in_err-m.ensures (refused_number refusal))
     refl
 
 pub heard_steps-requires-clause-enough : goal.heard_steps-requires-clause-enough
