@@ -53,7 +53,7 @@ fn account(out: Stdout, input: &[u8]) -> Result<(), Refusal> {
 
 fn main(rt: HostRuntime) {
     let mut input = [0u8; engine::LONGEST_INPUT];
-    let kept = streams::read_full(rt.stdin(), &mut input).unwrap_or_else(|failed| failed.count);
+    let kept = streams::read_full(rt.stdin(), &mut input);
     if let Err(refusal) = account(rt.stdout(), &input[..kept]) {
         let _ = streams::write_all(rt.stdout(), &[u8::from(refusal)]);
     }

@@ -7,22 +7,22 @@
 ghost use Rattle.std.specs.Prelude.{◌≡◌, ◌⊎◌, ◌<◌, ◌≤◌, length, IfOk};
 
 use engine::{LONGEST_INPUT, LONGEST_OUTPUT};
-use std::io::Stdin;
+use std::io::{Read, Stdin};
 use streams::{ReadFailed, WriteFailed};
 
 // A block of what comes after the kept bytes.
 const BLOCK: usize = 4096;
 
-// How many bytes come after the kept ones: they are read and counted. A proved loop has to end, and nothing says that the input does: the
-// blocks are as many as no input has.
-fn beyond(input: Stdin) -> Result<usize, ReadFailed> {
+// How many bytes come after the kept ones: they are read and counted, each read into a whole block, since an input of packets loses what a read
+// has no room for. A proved loop has to end, and nothing says that the input does: the reads are as many as no input has bytes.
+fn beyond(mut input: Stdin) -> Result<usize, ReadFailed> {
     let mut count = 0usize;
-    for _ in 0..0x4_0000_0000_0000u64 {
+    for _ in 0..0x4000_0000_0000_0000u64 {
         let mut block = [0u8; BLOCK];
-        let more = streams::read_full(input, &mut block)?;
-        count = count.saturating_add(more);
-        if more < BLOCK {
-            break;
+        match input.read(&mut block) {
+            Ok(0) => break,
+            Ok(more) => count = count.saturating_add(more),
+            Err(_) => return Err(ReadFailed { count }),
         }
     }
     Ok(count)
@@ -77,7 +77,7 @@ impl From<WriteFailed> for Failure {
 
 fn answer(rt: &HostRuntime) -> Result<(), Failure> {
     let mut input = [0u8; LONGEST_INPUT];
-    let kept = streams::read_full(rt.stdin(), &mut input)?;
+    let kept = streams::read_or_fail(rt.stdin(), &mut input)?;
     let beyond = rest(rt.stdin(), kept)?;
     let mut output = [0u8; LONGEST_OUTPUT];
     let count = answered(&input[..kept], beyond, &mut output);

@@ -16,8 +16,15 @@ pub struct ReadFailed {
 pub struct WriteFailed;
 
 // Reads until the space is full, the input ends or a read fails, and tells how many bytes it put at the start of the space. For an empty space it
-// makes no call.
-pub fn read_full<R: Read + Drop>(mut input: R, space: &mut [u8]) -> Result<usize, ReadFailed>
+// makes no call. Whether a read failed it does not tell.
+pub fn read_full<R: Read + Drop>(input: R, space: &mut [u8]) -> usize
+    ensures { result ≤ length space.new }
+{
+    read_or_fail(input, space).unwrap_or_else(|failed| failed.count)
+}
+
+// The same, and a read that failed is told.
+pub fn read_or_fail<R: Read + Drop>(mut input: R, space: &mut [u8]) -> Result<usize, ReadFailed>
     ensures read { IfOk result (λ count. count ≤ length space.new) }
     ensures failed { IfErr result (λ failed. failed.count ≤ length space.new) }
 {

@@ -1,10 +1,14 @@
 // The calls that are lent lists, behind a table and a marking. A lent list to write to is told whole behind the answer.
+ghost use Rattle.std.specs.Prelude.{◌≡◌, ◌≤◌, length, take};
+ghost use Rattle.rules.specs.Results.{as_marking};
+ghost use Rattle.rules.specs.Trace.{run, run_answers};
+
 use crate::state::State;
 use engine::Remedy;
 use rules::{Marking, Refusal, Slept, Step, Table};
 use wire::answer::Answer;
 use wire::list;
-use wire::payload::Given;
+use wire::payload::{Given, MARKING};
 
 // Which list the stretch is of, and the stretch.
 pub fn remedies(payload: &[u8], answer: &mut Answer) {
@@ -19,7 +23,10 @@ pub fn remedies(payload: &[u8], answer: &mut Answer) {
     );
 }
 
-// A runner is lent the steps' bytes and a buffer.
+// A number and a marking.
+const MARKED: usize = 1 + MARKING as usize;
+
+// A runner is lent the steps' bytes and a buffer, which is the part of the answer behind the number and the marking.
 fn ran<F>(payload: &[u8], answer: &mut Answer, run: F)
 where
     F: FnOnce(&Table, &Marking, &[u8], &mut [u8]) -> Result<Marking, Refusal>,
@@ -28,11 +35,15 @@ where
     let given = State::read(payload);
     let mut behind = given.behind;
     let steps = behind.list();
-    let mut room = [0u8; list::BUFFER];
-    let answers = list::lent(&mut room, 1, behind.rest());
-    let end = run(&given.table, &given.marking, steps, answers);
+    let buffer = behind.rest();
+    let end = run(
+        &given.table,
+        &given.marking,
+        steps,
+        answer.lent(MARKED, buffer),
+    );
     answer.result(end, given.marking);
-    answer.bytes(answers);
+    answer.past(buffer.len());
 }
 
 pub fn run_bytes(payload: &[u8], answer: &mut Answer) {
@@ -42,13 +53,30 @@ pub fn run_bytes(payload: &[u8], answer: &mut Answer) {
 // More places than the longest granted trace has steps, 4,096: a longer one comes to the runner too, and is refused there.
 const STEPS: usize = 4200;
 
-fn run_steps(t: &Table, m: &Marking, steps: &[u8], answers: &mut [u8]) -> Result<Marking, Refusal> {
+// The first n steps are lent to the runner.
+fn run_steps(
+    t: &Table,
+    m: &Marking,
+    steps: &[Step; STEPS],
+    n: usize,
+    answers: &mut [u8],
+) -> Result<Marking, Refusal>
+    requires { n ≤ 4200 }
+    ensures answer { as_marking m.now result ≡ run t.now m.now (take n steps.now) (length answers.old) }
+    ensures answers { answers.new ≡ run_answers t.now m.now (take n steps.now) answers.old }
+{
+    engine::run(t, m, &steps[..n], answers)
+}
+
+// The same of their bytes on the wire.
+fn run_told(t: &Table, m: &Marking, steps: &[u8], answers: &mut [u8]) -> Result<Marking, Refusal> {
     let mut room = [Step { kind: 0, event: 0 }; STEPS];
-    engine::run(t, m, list::lent(&mut room, 2, steps), answers)
+    let n = list::lent(&mut room, 2, steps).len();
+    run_steps(t, m, &room, n, answers)
 }
 
 pub fn run(payload: &[u8], answer: &mut Answer) {
-    ran(payload, answer, run_steps);
+    ran(payload, answer, run_told);
 }
 
 // More places than a list must have, 256: a shorter one comes to the call too, and is refused there.

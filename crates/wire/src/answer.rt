@@ -1,4 +1,6 @@
 // What a call answers: put byte by byte into a frame, which begins with the answer's length.
+ghost use Rattle.std.specs.Prelude.{◌≡◌, ◌+◌, ◌-◌, ◌^◌, ◌≤◌, length, min, take};
+
 use rules::{CheckError, Refusal};
 use std::io::Stdout;
 use streams::WriteFailed;
@@ -32,6 +34,26 @@ impl Answer {
         if self.end <= END {
             self.frame[start..self.end].copy_from_slice(bytes);
         }
+    }
+
+    // A buffer's bytes, behind so many more of the answer: a call is lent this part of it in the buffer's stead. It is counted once what stands
+    // before it is put (`past`).
+    pub fn lent(&mut self, behind: usize, buffer: &[u8]) -> &mut [u8]
+        ensures start { result.now ≡ take (length result.now) buffer.now }
+        ensures whole { self.old.end + behind + length buffer.now ≤ 20000 → result.now ≡ buffer.now }
+    {
+        let start = self.end.saturating_add(behind).min(END);
+        let end = start.saturating_add(buffer.len()).min(END);
+        let lent = &mut self.frame[start..end];
+        lent.copy_from_slice(&buffer[..end - start]);
+        lent
+    }
+
+    // So many bytes stand there already.
+    pub fn past(&mut self, count: usize)
+        ensures { self.new.end ≡ min (self.old.end + count) (2 ^ 64 - 1) }
+    {
+        self.end = self.end.saturating_add(count);
     }
 
     pub fn each<T: Told>(&mut self, values: &[T]) {

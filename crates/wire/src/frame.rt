@@ -10,7 +10,7 @@ pub struct Frame<'a> {
 
 // None if the input ends before the space is full, or a read fails.
 fn filled(input: Stdin, space: &mut [u8]) -> Option<()> {
-    let count = streams::read_full(input, space).ok()?;
+    let count = streams::read_or_fail(input, space).ok()?;
     (count == space.len()).then_some(())
 }
 

@@ -1,7 +1,6 @@
 // The image reader's calls, and a fresh marking. An event count comes first where a call is given one; a marking, an image or a buffer is
 // behind it. A buffer to write to is behind what is written.
 use crate::answer::Answer;
-use crate::list;
 use crate::payload::{Given, Payload};
 use rules::{Marking, Refusal, Relation, Table};
 
@@ -48,11 +47,10 @@ where
     F: FnOnce(&mut [u8]) -> Result<(), Refusal>,
     requires { F.IsAlwaysCallable write }
 {
-    let mut room = [0u8; list::BUFFER];
-    let buffer = list::lent(&mut room, 1, buffer.rest());
-    let result = write(buffer);
+    let bytes = buffer.rest();
+    let result = write(answer.lent(1, bytes));
     answer.result(result, ());
-    answer.bytes(buffer);
+    answer.past(bytes.len());
 }
 
 pub fn write_table(payload: &[u8], answer: &mut Answer) {

@@ -3,6 +3,11 @@ ghost use Rattle.std.specs.Prelude.{◌≤◌, length};
 
 use rules::Step;
 
+// The bytes of a table, and of a marking.
+pub const TABLE: u16 = 2088;
+
+pub const MARKING: u16 = 1032;
+
 // What is left of a payload.
 #[derive(Clone, Copy)]
 pub struct Payload<'a> {
@@ -41,7 +46,18 @@ impl<'a> Payload<'a> {
         }
     }
 
+    // The next bytes, so many. They are the start of a longer rest mostly, and that is one test and no loop.
     fn bytes<const N: usize>(&mut self) -> [u8; N] {
+        let rest = self.rest;
+        let Some((bytes, left)) = rest.split_first_chunk() else {
+            return self.last_bytes();
+        };
+        self.rest = left;
+        *bytes
+    }
+
+    // What is left, and 0 behind it.
+    fn last_bytes<const N: usize>(&mut self) -> [u8; N] {
         let mut bytes = [0; N];
         let taken = self.take(N);
         bytes[..taken.len()].copy_from_slice(taken);
