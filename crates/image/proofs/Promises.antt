@@ -1,6 +1,6 @@
--- Two results that meet a public call's promise are equal, the lent buffer too; and what the calls promise together: what is read is
--- accepted, what is written is read back, what is read is written again, what is carried over is read as the old image says. A promise is
--- what a caller learns of the answer and of the parameters at exit, as the call's own clauses say it. Assumes nothing.
+-- Two results that meet a public call's promise are equal, the lent buffer too, where the arguments are alike; and what the calls promise
+-- together: what is read is accepted, what is written is read back, what is read is written again, what is carried over is read as the old
+-- image says. A promise is what a caller learns of the answer and of the parameters at exit, as the call's own clauses say it. Assumes nothing.
 use mathlib.Core.Path.{◌≡◌, refl, sym, ap, ap₂, ◌∙◌}
 use mathlib.Core.List.{List, ◌++◌}
 use Prim.Native.Nat.{ℕ, ◌*◌, ◌<◌, ◌≤◌}
@@ -39,67 +39,92 @@ use Rattle.image.proofs.judge_table.Reads as judge-table
 use Rattle.image.proofs.judge_marking.Kinds as judge-marking-kinds
 use Rattle.image.proofs.judge_marking.Reads as judge-marking
 
--- two runs of a call, of the same arguments, that both keep its promise agree
+-- two runs of a call, of the very same arguments, that both keep its promise agree (the calls for C are compared so, in `duty`)
 abbrev pub Agree : (n : ℕ) (ps : List (ParamKind n)) (r : ResultKind n) (promise : Out n ps r)
     → ((κs : Lfts n) → (res_t r κs).Denot → (res_t r κs).Denot → AtExit (ended_of n ps r) κs → AtExit (ended_of n ps r) κs → Type 0) → Type 0
 Agree n ps r promise Same =
     (κs : Lfts n) (a : Dens κs ps) (one other : (res_t r κs).Denot) (x y : AtExit (ended_of n ps r) κs)
     → promise κs a one x → promise κs a other y → Same κs one other x y
 
--- two answers to the same arguments are one
-abbrev pub OneAnswer : (n : ℕ) (ps : List (ParamKind n)) (r : ResultKind n) → Out n ps r → Type 0
-OneAnswer n ps r promise = Agree n ps r promise (λ κs one other x y. one ≡ other)
+-- Two runs of a call, each with lifetimes and arguments of its own, that both keep its promise agree where the arguments are alike. Each theorem
+-- says what is alike: what is lent holds the same, wherever it lies, and the numbers are the same. A is what the call answers.
+abbrev pub AgreeAlike : (n : ℕ) (ps : List (ParamKind n)) (r : ResultKind n) (A : Type 0)
+    → ((κs : Lfts n) → Dens κs ps → A → AtExit (ended_of n ps r) κs → Type 0)
+    → ((κs μs : Lfts n) → Dens κs ps → Dens μs ps → Type 0)
+    → ((κs μs : Lfts n) → A → A → AtExit (ended_of n ps r) κs → AtExit (ended_of n ps r) μs → Type 0) → Type 0
+AgreeAlike n ps r A promise Alike Same =
+    (κs μs : Lfts n) (a : Dens κs ps) (b : Dens μs ps) (one other : A) (x : AtExit (ended_of n ps r) κs) (y : AtExit (ended_of n ps r) μs)
+    → Alike κs μs a b → promise κs a one x → promise μs b other y → Same κs μs one other x y
+
+-- two answers, to arguments that are alike, are one
+abbrev pub OneAnswer : (n : ℕ) (ps : List (ParamKind n)) (r : ResultKind n) (A : Type 0)
+    → ((κs : Lfts n) → Dens κs ps → A → AtExit (ended_of n ps r) κs → Type 0)
+    → ((κs μs : Lfts n) → Dens κs ps → Dens μs ps → Type 0) → Type 0
+OneAnswer n ps r A promise Alike = AgreeAlike n ps r A promise Alike (λ κs μs one other x y. one ≡ other)
 
 -- a call that is done has no value, and is told by its number
 outcome_once : (one other : Result (Unit {0}) Refusal) → number_of one ≡ number_of other → one ≡ other
 outcome_once one other same = result_once tt one other same refl
 
-pub read_table_once : OneAnswer 1 read-table-kinds.ps read-table-kinds.r read_table.Learnt
-read_table_once κs a one other x y p q = table_once one other (p ∙ sym q)
+pub read_table_once : OneAnswer 1 read-table-kinds.ps read-table-kinds.r (Result Table Refusal) read_table.Learnt
+    (λ κs μs a b. a.0.now ≡ b.0.now)
+read_table_once κs μs a b one other x y l p q = table_once one other ((rw l at p) ∙ sym q)
 
-pub write_table_once : OneAnswer 2 write-table-kinds.ps write-table-kinds.r write-table.Learnt
-write_table_once κs a one other x y p q = outcome_once one other (p.0 ∙ sym q.0)
+pub write_table_once : OneAnswer 2 write-table-kinds.ps write-table-kinds.r (Result (Unit {0}) Refusal) write-table.Learnt
+    (λ κs μs a b. (a.0.now ≡ b.0.now) × (a.1.0.now ≡ b.1.0.now))
+write_table_once κs μs a b one other x y l p q = outcome_once one other ((rw (l.0, l.1) at p.0) ∙ sym q.0)
 
-pub read_marking_once : OneAnswer 1 read-marking-kinds.ps read-marking-kinds.r read-marking.Learnt
-read_marking_once κs a one other x y p q = marking_once empty_marking one other (p ∙ sym q)
+pub read_marking_once : OneAnswer 1 read-marking-kinds.ps read-marking-kinds.r (Result Marking Refusal) read-marking.Learnt
+    (λ κs μs a b. (a.0 ≡ b.0) × (a.1.0.now ≡ b.1.0.now))
+read_marking_once κs μs a b one other x y l p q = marking_once empty_marking one other ((rw (l.0, l.1) at p) ∙ sym q)
 
-pub write_marking_once : OneAnswer 2 write-marking-kinds.ps write-marking-kinds.r write-marking.Learnt
-write_marking_once κs a one other x y p q = outcome_once one other (p.0 ∙ sym q.0)
+pub write_marking_once : OneAnswer 2 write-marking-kinds.ps write-marking-kinds.r (Result (Unit {0}) Refusal) write-marking.Learnt
+    (λ κs μs a b. (a.0.now ≡ b.0.now) × (a.1.0.now ≡ b.1.0.now))
+write_marking_once κs μs a b one other x y l p q = outcome_once one other ((rw (l.0, l.1) at p.0) ∙ sym q.0)
 
-pub carry_marking_once : OneAnswer 2 carry-marking-kinds.ps carry-marking-kinds.r carry-marking.Learnt
-carry_marking_once κs a one other x y p q = outcome_once one other (p.0 ∙ sym q.0)
+pub carry_marking_once : OneAnswer 2 carry-marking-kinds.ps carry-marking-kinds.r (Result (Unit {0}) Refusal) carry-marking.Learnt
+    (λ κs μs a b. (a.0 ≡ b.0) × (a.1.0.now ≡ b.1.0.now) × (a.1.1.0.now ≡ b.1.1.0.now))
+carry_marking_once κs μs a b one other x y l p q = outcome_once one other ((rw (l.0, l.1, l.2) at p.0) ∙ sym q.0)
 
-pub judge_table_once : OneAnswer 1 judge-table-kinds.ps judge-table-kinds.r judge-table.Learnt
-judge_table_once κs a one other x y p q = outcome_once one other (p ∙ sym q)
+pub judge_table_once : OneAnswer 1 judge-table-kinds.ps judge-table-kinds.r (Result (Unit {0}) Refusal) judge-table.Learnt
+    (λ κs μs a b. a.0.now ≡ b.0.now)
+judge_table_once κs μs a b one other x y l p q = outcome_once one other ((rw l at p) ∙ sym q)
 
-pub judge_marking_once : OneAnswer 1 judge-marking-kinds.ps judge-marking-kinds.r judge-marking.Learnt
-judge_marking_once κs a one other x y p q = outcome_once one other (p ∙ sym q)
+pub judge_marking_once : OneAnswer 1 judge-marking-kinds.ps judge-marking-kinds.r (Result (Unit {0}) Refusal) judge-marking.Learnt
+    (λ κs μs a b. (a.0 ≡ b.0) × (a.1.0.now ≡ b.1.0.now))
+judge_marking_once κs μs a b one other x y l p q = outcome_once one other ((rw (l.0, l.1) at p) ∙ sym q)
 
-pub fresh_once : OneAnswer 0 fresh-kinds.ps fresh-kinds.r fresh.Learnt
-fresh_once κs a one other x y p q = marking_once empty_marking one other (p ∙ sym q)
+pub fresh_once : OneAnswer 0 fresh-kinds.ps fresh-kinds.r (Result Marking Refusal) fresh.Learnt (λ κs μs a b. a.0 ≡ b.0)
+fresh_once κs μs a b one other x y l p q = marking_once empty_marking one other ((rw l at p) ∙ sym q)
 
-pub empty_once : OneAnswer 0 empty-kinds.ps empty-kinds.r empty.Learnt
-empty_once κs a one other x y p q = p ∙ sym q
+pub empty_once : OneAnswer 0 empty-kinds.ps empty-kinds.r Marking empty.Learnt (λ κs μs a b. a ≡ b)
+empty_once κs μs a b one other x y l p q = p ∙ sym q
 
--- a refusal where no marking was handed in is told by its answer
-pub refused_once : (one other : Refusal) → as_marking empty_marking (Err one) ≡ as_marking empty_marking (Err other) → one ≡ other
-refused_once one other same = refusal_once one other (ap (λ (a : MarkingAnswer). a.number) same)
+-- A refusal where no marking was handed in is its number and the empty marking: two results that are read as that are one, and two refusals that
+-- are read alike are one.
+pub refused_once :
+    ((number : ℕ) (one other : Result Marking Refusal)
+    → as_marking empty_marking one ≡ record { number = number; marking = empty_marking }
+    → as_marking empty_marking other ≡ record { number = number; marking = empty_marking }
+    → one ≡ other)
+    × ((one other : Refusal) → as_marking empty_marking (Err one) ≡ as_marking empty_marking (Err other) → one ≡ other)
+refused_once = (
+  λ number one other p q. marking_once empty_marking one other (p ∙ sym q),
+  λ one other same. refusal_once one other (ap (λ (a : MarkingAnswer). a.number) same),
+)
 
 -- .. and so are two buffers that are handed back
-pub write_table_bytes_once : (κs : Lfts 2) (a : Dens κs write-table-kinds.ps) (one other : Result (Unit {0}) Refusal)
-    (x y : AtExit (ended_of 2 write-table-kinds.ps write-table-kinds.r) κs)
-    → write-table.Learnt κs a one x → write-table.Learnt κs a other y → x.1.0.now ≡ y.1.0.now
-write_table_bytes_once κs a one other x y p q = p.1 ∙ sym q.1
+pub write_table_bytes_once : AgreeAlike 2 write-table-kinds.ps write-table-kinds.r (Result (Unit {0}) Refusal) write-table.Learnt
+    (λ κs μs a b. (a.0.now ≡ b.0.now) × (a.1.0.now ≡ b.1.0.now)) (λ κs μs one other x y. x.1.0.now ≡ y.1.0.now)
+write_table_bytes_once κs μs a b one other x y l p q = (rw (l.0, l.1) at p.1) ∙ sym q.1
 
-pub write_marking_bytes_once : (κs : Lfts 2) (a : Dens κs write-marking-kinds.ps) (one other : Result (Unit {0}) Refusal)
-    (x y : AtExit (ended_of 2 write-marking-kinds.ps write-marking-kinds.r) κs)
-    → write-marking.Learnt κs a one x → write-marking.Learnt κs a other y → x.1.0.now ≡ y.1.0.now
-write_marking_bytes_once κs a one other x y p q = p.1 ∙ sym q.1
+pub write_marking_bytes_once : AgreeAlike 2 write-marking-kinds.ps write-marking-kinds.r (Result (Unit {0}) Refusal) write-marking.Learnt
+    (λ κs μs a b. (a.0.now ≡ b.0.now) × (a.1.0.now ≡ b.1.0.now)) (λ κs μs one other x y. x.1.0.now ≡ y.1.0.now)
+write_marking_bytes_once κs μs a b one other x y l p q = (rw (l.0, l.1) at p.1) ∙ sym q.1
 
-pub carry_marking_bytes_once : (κs : Lfts 2) (a : Dens κs carry-marking-kinds.ps) (one other : Result (Unit {0}) Refusal)
-    (x y : AtExit (ended_of 2 carry-marking-kinds.ps carry-marking-kinds.r) κs)
-    → carry-marking.Learnt κs a one x → carry-marking.Learnt κs a other y → x.1.1.0.now ≡ y.1.1.0.now
-carry_marking_bytes_once κs a one other x y p q = p.1 ∙ sym q.1
+pub carry_marking_bytes_once : AgreeAlike 2 carry-marking-kinds.ps carry-marking-kinds.r (Result (Unit {0}) Refusal) carry-marking.Learnt
+    (λ κs μs a b. (a.0 ≡ b.0) × (a.1.0.now ≡ b.1.0.now) × (a.1.1.0.now ≡ b.1.1.0.now)) (λ κs μs one other x y. x.1.1.0.now ≡ y.1.1.0.now)
+carry_marking_bytes_once κs μs a b one other x y l p q = (rw (l.0, l.1, l.2) at p.1) ∙ sym q.1
 
 -- A run of a call that keeps its promise: what it is given, what it answers, and the parameters that it leaves.
 pub record Run (n : ℕ) (ps : List (ParamKind n)) (r : ResultKind n) (promise : Out n ps r) : Type 0 where

@@ -1,10 +1,11 @@
 -- Ticks that pass over words: what is known of the words and of the list after so many of them.
-use Rattle.std.specs.Prelude.{◌≡◌, List, map, ℕ, length}
+use Rattle.std.specs.Prelude.{◌≡◌, List, map, ℕ, length, get_or}
 use Rattle.std.proofs.lemmas.List.Edits.{sets as storesFrom}
 use Rattle.rules.specs.declared.Table.{Table}
 use Rattle.rules.specs.declared.Record.{Record}
 use Rattle.rules.specs.declared.Marking.{Marking}
-use Rattle.rules.specs.Sleep.{slept, entry, slept_caused, places_of}
+use Rattle.rules.specs.Counting.{places}
+use Rattle.rules.specs.Sleep.{slept, entry, slept_caused, place_of, places_of}
 use Rattle.acts.specs.declared.marking_words.MarkingWords.{MarkingWords}
 use Rattle.acts.specs.Stands.{Stands}
 
@@ -15,6 +16,10 @@ put at values list = storesFrom list at values
 -- the places of the caused events of a tick
 abbrev pub noted : ℕ → List ℕ → List ℕ
 noted tick events = places_of (map (entry tick) events)
+
+-- the places of the first so many events of a list, told place by place: for one that is not there event 0 stands
+abbrev pub noted_first : ℕ → List ℕ → ℕ → List ℕ
+noted_first tick caused count = places count (λ i. place_of (entry tick (get_or caused i 0)))
 
 -- so many ticks have passed from the marking m, at which the list was `before`, and so many events were caused
 pub record PassingAt (t : Table) (tail : List Record) (m : Marking) (before : List ℕ) (clock : ℕ) (sets columns : List ℕ) (count : ℕ) (list : List ℕ)

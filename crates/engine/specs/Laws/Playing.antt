@@ -1,6 +1,6 @@
 -- A run over words: what holds between two steps is kept, and after the last of them the words stand for the end marking. Assumes nothing.
 use Rattle.std.specs.Prelude.{◌≡◌, refl, Bool, true, false, not, ◌&&◌, ◌||◌, eqb, List, [], ◌∷◌, ◌++◌, ℕ, ◌<◌, ◌+◌, length, drop, get_or, set}
-use Rattle.std.proofs.Common.{◌∙◌, ap, sym, subst, ⊎_elim, eqb-true}
+use Rattle.std.proofs.Common.{◌∙◌, ap, subst, ⊎_elim, eqb-true}
 use Rattle.std.proofs.Math.Seq.{drop-length}
 use Rattle.std.proofs.lemmas.List.{append-nil}
 use Rattle.rules.specs.declared.Table.{Table}
@@ -45,10 +45,32 @@ module _ (t : Table) (now : Marking) (accepted : Bool) (s : Step) (f : Fit t now
   unfolding end_of
   on_accepts a = (check_parts t _ (accepts-on t now (check_accepts t now f.judged_done a) (s ∷ []))).1
 
-  fit_next : Fit t (stepped t now s) (accepted || eqb s.kind 3 && eqb (step_number t now s) 0)
+  pub fit_next : Fit t (stepped t now s) (accepted || eqb s.kind 3 && eqb (step_number t now s) 0)
   fit_next = record {
     judged_done = stepped_judged t now s f.judged_done;
     accepts = λ h. on_accepts (⊎_elim f.accepts ticked_accepts (either accepted _ h));
+  }
+
+-- A loop over the steps, after i of them: the marking and the buffer, and what holds between two steps.
+module _ (t : Table) (m : Marking) (steps : List Step) (buffer : List ℕ) where
+  pub record Going (i : ℕ) (now : Marking) (accepted : Bool) (held : List ℕ) : Type 0 where
+    pub after : After t m steps buffer i now held
+    pub fit : judged t m ≡ 0 → Fit t now accepted
+
+  pub going_first : Going 0 m false buffer
+  going_first = record {
+    after = after_none t m steps buffer;
+    fit = λ done. record { judged_done = done; accepts = λ b. absurd (clash b refl) };
+  }
+
+  pub going_more : (i : ℕ) (now : Marking) (accepted : Bool) (held : List ℕ) → Going i now accepted held → i < length steps → i < length buffer
+      → (s : Step) → s ≡ get_or steps i no_step
+      → Going (i + 1) (turned t now s.kind s.event).marking (accepted || eqb s.kind 3 && eqb (turned t now s.kind s.event).number 0)
+      (set held i (turned t now s.kind s.event).number)
+  unfolding turned
+  going_more i now accepted held g more room s is = record {
+    after = after_more t m steps buffer i now held g.after more room (turned t now s.kind s.event) (rw is refl);
+    fit = λ done. fit_next t now accepted s (g.fit done);
   }
 
 -- After i steps: the words stand for the marking, and the buffer has an answer for each step before what it held.
@@ -56,38 +78,38 @@ pub record Playing (t : Table) (tail : List Record) (m : Marking) (steps : List 
     (accepted : Bool) (held : List ℕ) : Type 0 where
   pub now : Marking
   pub stands : StandFor t.events tail words now
-  pub fit : Fit t now accepted
-  pub after : After t m steps buffer i now held
+  pub going : Going t m steps buffer i now accepted held
 
 module _ (t : Table) (tail : List Record) (m : Marking) (steps : List Step) (buffer : List ℕ) where
-  pub playing_first : (words : MarkingWords) → judged t m ≡ 0 → StandFor t.events tail words m
-      → Playing t tail m steps buffer 0 words false buffer
-  playing_first words done stands = record {
-    now = m;
-    stands = stands;
-    fit = record { judged_done = done; accepts = λ b. absurd (clash b refl) };
-    after = after_none t m steps buffer;
-  }
+  pub playing_first : (words : MarkingWords) → StandFor t.events tail words m → Playing t tail m steps buffer 0 words false buffer
+  playing_first words stands = record { now = m; stands = stands; going = going_first t m steps buffer }
 
   module _ (i : ℕ) (words : MarkingWords) (accepted : Bool) (held : List ℕ) (p : Playing t tail m steps buffer i words accepted held) where
+    -- where the check is said to accept it does
+    pub playing_accepts : judged t m ≡ 0 → accepted ≡ true → verdict t p.now ≡ Accepts
+    playing_accepts done = (p.going.fit done).accepts
+
     pub playing_more : i < length steps → i < length buffer → (s : Step) → s ≡ get_or steps i no_step
         → (told : ℕ) (next-accepted : Bool) (next : MarkingWords) → Turned t tail p.now accepted s told next-accepted next
         → Playing t tail m steps buffer (i + 1) next next-accepted (set held i told)
-    unfolding turned
     playing_more more room s is told next-accepted next step = record {
-      now = stepped t p.now s;
+      now = (turned t p.now s.kind s.event).marking;
       stands = step.stands;
-      fit = subst (λ (b : Bool). Fit t (stepped t p.now s) b) (sym (step.accepts ∙ ap (λ (n : ℕ). accepted || eqb s.kind 3 && eqb n 0) step.number)) (fit_next t p.now accepted s p.fit);
-      after =
-          after_more t m steps buffer i p.now held p.after more room (record { number = told; marking = stepped t p.now s })
-          (rw (← is, step.number) refl);
+      going = rw (step.accepts, step.number) (going_more t m steps buffer i p.now accepted held p.going more room s is);
     }
 
-    pub playing_last : i ≡ length steps → length steps ≡ length buffer
+    -- after the last step: the marking, what the words stand for, and the buffer, of which later bytes stay
+    pub playing_last : i ≡ length steps
+        → (p.now ≡ end_of t m steps) × (StandFor t.events tail words (end_of t m steps))
+        × (held ≡ answers_of t m steps ++ drop (length steps) buffer)
+    playing_last e =
+        let done = after_all t m steps buffer i p.now held p.going.after e in
+        (done.0, subst (λ (k : Marking). StandFor t.events tail words k) done.0 p.stands, done.1)
+
+    -- .. which has no later ones where it has a byte for each step and no more
+    pub playing_whole : i ≡ length steps → length steps ≡ length buffer
         → (StandFor t.events tail words (end_of t m steps)) × (held ≡ answers_of t m steps)
-    playing_last e all =
-        let done = after_all t m steps buffer i p.now held p.after e in
-        let none : drop (length steps) buffer ≡ [] = rw all (drop-length buffer) in (
-          subst (λ (k : Marking). StandFor t.events tail words k) done.0 p.stands,
-          done.1 ∙ ap {B = List ℕ} (λ l. answers_of t m steps ++ l) none ∙ append-nil (answers_of t m steps),
-        )
+    playing_whole e all =
+        let done = playing_last e in
+        let none : drop (length steps) buffer ≡ [] = rw all (drop-length buffer) in
+        (done.1, done.2 ∙ ap {B = List ℕ} (λ l. answers_of t m steps ++ l) none ∙ append-nil (answers_of t m steps))

@@ -1,9 +1,9 @@
 -- Ticks that pass over words, one run or one guarded tick more; and what is noted in the list. Assumes nothing.
 use Rattle.std.specs.Prelude.{◌≡◌, get_or, take, drop}
 use Rattle.std.proofs.Math.Path.{refl, sym, ap, ap₂, subst}
-use Rattle.std.proofs.Common.{◌∙◌, arith, add-zero, zero-add, length-append, length-take-le}
+use Rattle.std.proofs.Common.{◌∙◌, arith, add-one, add-zero, zero-add, length-append}
 use mathlib.Core.List.{List, [], ◌∷◌, ◌++◌, map, append-nil, map-append}
-use Prim.Native.Nat.{ℕ, suc, ◌+◌, ◌<◌, ◌≤◌}
+use Prim.Native.Nat.{ℕ, zero, suc, ◌+◌, ◌<◌, ◌≤◌}
 use Rattle.std.proofs.Math.ListN.{length, set}
 use Rattle.std.proofs.lemmas.List.{length-map, take_more}
 use Rattle.std.proofs.lemmas.List.Edits.{sets as storesFrom}
@@ -11,14 +11,14 @@ use Rattle.std.proofs.Math.Seq.{length-sets, set_out, take-append_seam}
 use Rattle.rules.specs.declared.Table.{Table}
 use Rattle.rules.specs.declared.Record.{Record}
 use Rattle.rules.specs.declared.Marking.{Marking}
-use Rattle.rules.specs.Counting.{repeated}
+use Rattle.rules.specs.Counting.{repeated, places_from, places}
 use Rattle.rules.specs.Judge.{judged}
 use Rattle.rules.specs.Time.{any_due, time}
 use Rattle.rules.specs.Guard.{caused, guarded}
 use Rattle.rules.specs.Sleep.{slept, Entry, entry, slept_caused, place_of, places_of, moved}
 use Rattle.rules.specs.Quiet.{quiet_ticks}
 use Rattle.rules.specs.Shapes.Good.{GoodTable, GoodMarking}
-use Rattle.rules.proofs.Laws.Counting.{lowest_before}
+use Rattle.rules.proofs.Laws.Counting.{lowest_before, length_places, places_more}
 use Rattle.rules.proofs.Laws.Sleep.{slept_adds, caused_adds, quiet_run}
 use Rattle.acts.specs.declared.marking_words.MarkingWords.{MarkingWords}
 use Rattle.acts.specs.Stands.{Stands}
@@ -28,7 +28,7 @@ use Rattle.acts.specs.Laws.Stands.{stands_events}
 use Rattle.acts.specs.Laws.Quiet.{ticks_stand}
 use Rattle.duties.specs.AtStart.{AtStart}
 use Rattle.duties.specs.Laws.Step.{stands_of}
-use Rattle.sleep.specs.Passing.{put, noted, PassingAt, Passing}
+use Rattle.sleep.specs.Passing.{put, noted, noted_first, PassingAt, Passing}
 
 -- some values, and then others behind them
 pub put_append : (at : ℕ) (a b list : List ℕ) → put at (a ++ b) list ≡ put (at + length a) b (put at a list)
@@ -48,34 +48,49 @@ module _ (tick : ℕ) (caused : List ℕ) (at : ℕ) (list : List ℕ) where
   unfolding put
   noted_none = refl
 
-  noted_next : (i : ℕ) → i < length caused
-      → noted tick (take (i + 1) caused) ≡ noted tick (take i caused) ++ (place_of (entry tick (get_or caused i 0)) ∷ [])
-  noted_next i b =
-      ap (noted tick) (take_more caused i 0 b)
-      ∙ ap places_of (map-append (entry tick) (take i caused) (get_or caused i 0 ∷ []))
-      ∙ map-append place_of (map (entry tick) (take i caused)) (entry tick (get_or caused i 0) ∷ [])
-
-  noted_length : (i : ℕ) → i < length caused → length (noted tick (take i caused)) ≡ i
-  noted_length i b =
-      length-map (map (entry tick) (take i caused)) place_of ∙ length-map (take i caused) (entry tick) ∙ length-take-le i caused (omega (arith, b))
-
   -- one event more, where the list has a place, and where it has none
-  pub noted_more : (i : ℕ) {now : List ℕ} {value : ℕ} → i < length caused → now ≡ put at (noted tick (take i caused)) list
-      → value ≡ place_of (entry tick (get_or caused i 0)) → set now (at + i) value ≡ put at (noted tick (take (i + 1) caused)) list
+  pub noted_more : (i : ℕ) {now : List ℕ} {value : ℕ} → now ≡ put at (noted_first tick caused i) list
+      → value ≡ place_of (entry tick (get_or caused i 0)) → set now (at + i) value ≡ put at (noted_first tick caused (i + 1)) list
   unfolding put
-  noted_more i {now} {value} b is told =
-      let v : ℕ = place_of (entry tick (get_or caused i 0)) in
+  noted_more i {now} {value} is told =
+      let f : ℕ → ℕ = λ j. place_of (entry tick (get_or caused j 0)) in
       ap₂ (λ (l : List ℕ) (v : ℕ). set l (at + i) v) is told
-      ∙ ap (λ (k : ℕ). set (storesFrom list at (noted tick (take i caused))) (at + k) v) (sym (noted_length i b))
-      ∙ sym (put_append at (noted tick (take i caused)) (v ∷ []) list)
-      ∙ ap (storesFrom list at) (sym (noted_next i b))
+      ∙ ap (λ (k : ℕ). set (storesFrom list at (places i f)) (at + k) (f i)) (sym (length_places f i))
+      ∙ sym (put_append at (places i f) (f i ∷ []) list)
+      ∙ ap (storesFrom list at) (sym (places_more f i))
 
-  pub noted_past : (i : ℕ) {now : List ℕ} → i < length caused → now ≡ put at (noted tick (take i caused)) list → length now ≤ at + i
+  pub noted_past : (i : ℕ) {now : List ℕ} → now ≡ put at (noted_first tick caused i) list → length now ≤ at + i
+      → now ≡ put at (noted_first tick caused (i + 1)) list
+  noted_past i {now} is past = sym (set_out now (at + i) (place_of (entry tick (get_or caused i 0))) past) ∙ noted_more i is refl
+
+  -- .. of events that are there: they are the first of the list
+  taken_first : (i : ℕ) → i ≤ length caused → noted_first tick caused i ≡ noted tick (take i caused)
+  unfolding places_from
+  taken_first zero b = refl
+  taken_first (suc i) b =
+      let f : ℕ → ℕ = λ j. place_of (entry tick (get_or caused j 0)) in
+      let there : i < length caused = omega (arith, b) in
+      let one : take (suc i) caused ≡ take i caused ++ (get_or caused i 0 ∷ []) = rw (sym (add-one i)) (take_more caused i 0 there) in
+      ap (λ (k : ℕ). places k f) (sym (add-one i))
+      ∙ places_more f i
+      ∙ ap (λ (l : List ℕ). l ++ (f i ∷ [])) (taken_first i (omega (arith, b)))
+      ∙ sym (ap (noted tick) one
+      ∙ ap places_of (map-append (entry tick) (take i caused) (get_or caused i 0 ∷ []))
+      ∙ map-append place_of (map (entry tick) (take i caused)) (entry tick (get_or caused i 0) ∷ []))
+
+  taken_told : (i : ℕ) → i ≤ length caused → put at (noted_first tick caused i) list ≡ put at (noted tick (take i caused)) list
+  taken_told i b = ap (λ (l : List ℕ). put at l list) (taken_first i b)
+
+  pub taken_more : (i : ℕ) {now : List ℕ} {value : ℕ} → i < length caused → now ≡ put at (noted tick (take i caused)) list
+      → value ≡ place_of (entry tick (get_or caused i 0)) → set now (at + i) value ≡ put at (noted tick (take (i + 1) caused)) list
+  taken_more i b is told = noted_more i (is ∙ sym (taken_told i (omega (arith, b)))) told ∙ taken_told (i + 1) (omega (arith, b))
+
+  pub taken_past : (i : ℕ) {now : List ℕ} → i < length caused → now ≡ put at (noted tick (take i caused)) list → length now ≤ at + i
       → now ≡ put at (noted tick (take (i + 1) caused)) list
-  noted_past i {now} b is past = sym (set_out now (at + i) (place_of (entry tick (get_or caused i 0))) past) ∙ noted_more i b is refl
+  taken_past i b is past = noted_past i (is ∙ sym (taken_told i (omega (arith, b)))) past ∙ taken_told (i + 1) (omega (arith, b))
 
 -- at the start nothing is slept through
-passing_start : {t : Table} {tail : List Record} {m : Marking} {sets columns : List ℕ} (before : List ℕ) → Stands t.events tail 0 sets columns m
+pub passing_start : {t : Table} {tail : List Record} {m : Marking} {sets columns : List ℕ} (before : List ℕ) → Stands t.events tail 0 sets columns m
     → PassingAt t tail m before 0 sets columns 0 before
 unfolding slept repeated slept_caused put
 passing_start before stands = record { stands = stands; counted = refl; listed = refl }
