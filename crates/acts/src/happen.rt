@@ -7,11 +7,12 @@ ghost use Rattle.rules.specs.Numbers.{◌if◌, done};
 ghost use Rattle.rules.specs.Results.{number_of};
 ghost use Rattle.rules.specs.Enabled.{is_enabled};
 ghost use Rattle.rules.specs.Effect.{effect};
+ghost use Rattle.rules.specs.Happen.{happen_number};
 ghost use Rattle.acts.specs.Derived.{firm_set};
-ghost use Rattle.acts.specs.Words.{RowOf, StandFor};
+ghost use Rattle.acts.specs.Words.{RowOf, WordsOf, StandFor};
 
 use crate::marking_words::MarkingWords;
-use crate::table_words::Row;
+use crate::table_words::{Row, TableWords};
 use rules::Refusal;
 
 impl MarkingWords {
@@ -31,4 +32,19 @@ impl MarkingWords {
         self.execute(row, e, firm);
         Ok(())
     }
+}
+
+// 8, 10: an event that exists is executed if it is enabled.
+#[inline(always)]
+pub fn happen(table: &TableWords, marking: &mut MarkingWords, e: usize) -> Result<(), Refusal>
+    ensures number { (t : Tabled) (tail : List Kept) (m : Marked) → WordsOf t table.now → StandFor t.events tail marking.old m
+        → number_of result ≡ happen_number t m e }
+    ensures stand { (t : Tabled) (tail : List Kept) (m : Marked) → WordsOf t table.now → StandFor t.events tail marking.old m
+        → StandFor t.events tail marking.new (done (number_of result) (effect t m e) m) }
+    ensures clock { marking.new.clock ≡ marking.old.clock }
+{
+    if table.rows.head.events <= e {
+        return Err(Refusal::NotThere);
+    }
+    marking.happen(table.row(e), e, table.rows.head.firm)
 }

@@ -7,31 +7,16 @@ ghost use Rattle.rules.specs.CheckAnswer.{Accepts};
 ghost use Rattle.rules.specs.Numbers.{done, check_number};
 ghost use Rattle.rules.specs.Results.{number_of};
 ghost use Rattle.rules.specs.Check.{verdict};
-ghost use Rattle.rules.specs.Effect.{effect};
-ghost use Rattle.rules.specs.Happen.{happen_number};
 ghost use Rattle.rules.specs.Time.{time, plain_tick_number};
 ghost use Rattle.rules.specs.Guard.{guarded};
 ghost use Rattle.acts.specs.Words.{RowsOf, WordsOf, StandFor};
 ghost use Rattle.duties.specs.Step.{Turned};
 
 use crate::{guard, reasons};
+use acts::happen;
 use acts::marking_words::MarkingWords;
 use acts::table_words::{Rows, TableWords};
 use rules::{Refusal, Step};
-
-// 8, 10: an event that exists is executed if it is enabled.
-fn happen(table: &TableWords, marking: &mut MarkingWords, e: usize) -> Result<(), Refusal>
-    ensures number { (t : Table) (tail : List Record) (m : Marking) → WordsOf t table.now → StandFor t.events tail marking.old m
-        → number_of result ≡ happen_number t m e }
-    ensures stand { (t : Table) (tail : List Record) (m : Marking) → WordsOf t table.now → StandFor t.events tail marking.old m
-        → StandFor t.events tail marking.new (done (number_of result) (effect t m e) m) }
-    ensures clock { marking.new.clock ≡ marking.old.clock }
-{
-    if table.rows.head.events <= e {
-        return Err(Refusal::NotThere);
-    }
-    marking.happen(table.row(e), e, table.rows.head.firm)
-}
 
 // 11: a tick passes if no event is due.
 fn plain_tick(marking: &mut MarkingWords, n: usize) -> Result<(), Refusal>
@@ -93,7 +78,7 @@ pub fn step(
 {
     let e = step.event as usize;
     match step.kind {
-        Step::HAPPEN..=Step::LAST_HAPPEN => return happen(table, marking, e),
+        Step::HAPPEN..=Step::LAST_HAPPEN => return happen::happen(table, marking, e),
         Step::PLAIN_TICK if e == 0 => plain_tick(marking, table.rows.head.events)?,
         Step::GUARDED_TICK if e == 0 => guarded_tick(table, marking, *accepted)?,
         _ => return Err(Refusal::Step),

@@ -40,3 +40,8 @@ pub struct Slept {
     pub count: usize,
     pub marking: Marking,
 }
+
+impl Slept {
+    // One call passes at most so many ticks.
+    pub const MOST_TICKS: usize = 1_000_000;
+}

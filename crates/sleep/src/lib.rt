@@ -15,9 +15,6 @@ use acts::table_words::TableWords;
 use image::judging;
 use rules::{CheckError, Marking, Refusal, Slept, Table};
 
-// One call passes at most so many ticks.
-const MOST_TICKS: usize = 1_000_000;
-
 // Into the first places of the list: 256 times the number of the tick before which an event was caused, and the event. Nothing is written before
 // the whole list is known to fit.
 pub fn sleep(t: &Table, m: &Marking, ticks: usize, list: &mut [u32]) -> Result<Slept, CheckError>
@@ -25,7 +22,7 @@ pub fn sleep(t: &Table, m: &Marking, ticks: usize, list: &mut [u32]) -> Result<S
     ensures list { list.new ≡ sleep_list t.now m.now ticks list.old }
 {
     judging::judge(t, m)?;
-    if MOST_TICKS < ticks {
+    if Slept::MOST_TICKS < ticks {
         return Err(CheckError::Refused(Refusal::Room));
     }
     let table = TableWords::of(t);
@@ -43,5 +40,5 @@ pub fn quiet(t: &Table, m: &Marking) -> Result<usize, Refusal>
 {
     judging::judge(t, m)?;
     let marking = MarkingWords::of(m);
-    Ok(marking.quiet(t.events, MOST_TICKS as u32) as usize)
+    Ok(marking.quiet(t.events, Slept::MOST_TICKS as u32) as usize)
 }

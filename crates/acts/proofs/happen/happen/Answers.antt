@@ -1,7 +1,7 @@
 -- An event that is not there; or one that is executed if it is enabled.
 use Rattle.std.proofs.Common.{◌∙◌, refl}
 use Rattle.acts.specs.Laws.Happen.{head_exists, happen_missing, happen_acted}
-use Rattle.duties.proofs.step.happen.Goals as goal
+use Rattle.acts.proofs.happen.happen.Goals as goal
 
 pub returns-then-table-e-clause-number : goal.returns-then-table-e-clause-number
 returns-then-table-e-clause-number c = λ t tail m of stands. happen_missing _ t of.rows.headed m c.args.e c.if-table-e.true
