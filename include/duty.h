@@ -50,11 +50,11 @@
  * are measured, of the compiled library, and not proved: docs/BENCH.md, 'Stack', says how. None takes more than 24 KiB. There is no heap, and
  * one call recurses: duty_chain, one visit within another for each event at most, 64, and one more that finds its event open. All of them are
  * counted.
- *     duty_sleep 23,296   duty_guarded_tick 20,320  duty_run 23,504      duty_remedies 15,416
- *     duty_happen 16,816  duty_check 14,032         duty_chain 13,712    duty_plain_tick 16,816
- *     duty_margin 13,712  duty_closure 13,728       duty_enabled 13,696  duty_hold_up 13,728
- *     duty_quiet 13,712   duty_due 13,712           duty_record 13,696   duty_relation 8,432
- *     duty_judge 10,560   duty_class 6,320          duty_firm 6,320      duty_write_table 4,480
+ *     duty_sleep 20,208   duty_guarded_tick 20,336  duty_run 20,400      duty_remedies 12,360
+ *     duty_happen 13,464  duty_check 10,928         duty_chain 9,248     duty_plain_tick 11,352
+ *     duty_margin 7,392   duty_closure 7,408        duty_enabled 9,472   duty_hold_up 7,408
+ *     duty_quiet 7,392    duty_due 7,392            duty_record 8,416    duty_relation 8,432
+ *     duty_judge 7,360    duty_class 6,320          duty_firm 6,320      duty_write_table 4,480
  *     duty_fresh 3,176    duty_carry 2,112
  *     duty_size, duty_lowest 8
  */

@@ -9,7 +9,6 @@ ghost use Rattle.rules.specs.Image.{read_table, class_byte};
 ghost use Rattle.rules.specs.Images.{table_of, marking_of, images_number, record_fields};
 ghost use Rattle.rules.specs.Building.{numbers_from, class_told_number};
 
-use super::images;
 use rules::Refusal;
 
 // The five numbers of a relation of a table.
@@ -53,9 +52,10 @@ pub fn record(table: &[u8], marking: &[u8], event: usize) -> Result<[u32; 7], Re
     ensures number { number_of result ≡ (images_number table.now marking.now else event_number (table_of table.now) event) }
     ensures fields { IfOk result (λ fields. fields ≡ record_fields (record_of (marking_of table.now marking.now) event)) }
 {
-    let i = images::read(table, marking)?;
-    image::judging::exists(event, i.table.events)?;
-    let r = i.marking.records[event];
+    let t = image::read_table(table)?;
+    let m = image::read_marking(t.events, marking)?;
+    image::judging::exists(event, t.events)?;
+    let r = m.records[event];
     Ok([
         r.happened as u32,
         r.age,

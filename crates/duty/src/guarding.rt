@@ -6,15 +6,14 @@ ghost use Rattle.rules.specs.Guard.{guarded_tick};
 ghost use Rattle.rules.specs.Images.{marking_of, on, guard_number};
 ghost use Rattle.duty.specs.Reading.{Refuses};
 
-use super::images::{self, Images};
-use rules::{CheckError, Guarded, Refusal};
+use rules::{CheckError, Guarded, Marking, Refusal, Table};
 
 // In a frame of its own, beside that of the reading.
 #[inline(never)]
-fn ticked(i: &Images) -> Result<Guarded, CheckError>
-    ensures { as_guarded i.now.marking result ≡ guarded_tick i.now.table i.now.marking }
+fn ticked(t: &Table, m: &Marking) -> Result<Guarded, CheckError>
+    ensures { as_guarded m.now result ≡ guarded_tick t.now m.now }
 {
-    engine::guarded_tick(&i.table, &i.marking)
+    engine::guarded_tick(t, m)
 }
 
 // Each event is caused at most once, so there is room where the buffer has a byte for each.
@@ -24,9 +23,10 @@ pub fn guarded_tick(table: &[u8], marking: &[u8], room: usize) -> Result<Guarded
     ensures ticked { guard_number table.now marking.now room ≡ 0
         → as_guarded (marking_of table.now marking.now) result ≡ on guarded_tick table.now marking.now }
 {
-    let i = images::read(table, marking)?;
-    if room < i.table.events {
+    let t = image::read_table(table)?;
+    let m = image::read_marking(t.events, marking)?;
+    if room < t.events {
         return Err(CheckError::Refused(Refusal::Room));
     }
-    ticked(&i)
+    ticked(&t, &m)
 }

@@ -41,7 +41,7 @@ use rules::Marking;
 pub extern "C" fn duty_judge(table: &[u8], marking: &[u8]) -> u8
     ensures { result ≡ images_number table.now marking.now }
 {
-    telling::number(&images::read(table, marking))
+    telling::number(&images::on(table, marking, |_| Ok(())))
 }
 
 // A fresh marking's image, into the first bytes of the buffer.
@@ -139,7 +139,7 @@ pub extern "C" fn duty_enabled(table: &[u8], marking: &[u8], event: usize, enabl
         enabled.old }
 {
     let answer = images::on(table, marking, |i| {
-        engine::enabled(&i.table, &i.marking, event)
+        engine::enabled(i.table, i.marking, event)
     });
     telling::tell(answer.map(u8::from), enabled)
 }
@@ -151,7 +151,7 @@ pub extern "C" fn duty_due(table: &[u8], marking: &[u8], set: &mut u64) -> u8
         ≡ (images_number table.now marking.now else (on due_answer table.now marking.now).number) }
     ensures set { set.new ≡ done result (on due_answer table.now marking.now).set set.old }
 {
-    let answer = images::on(table, marking, |i| engine::due(&i.table, &i.marking));
+    let answer = images::on(table, marking, |i| engine::due(i.table, i.marking));
     telling::tell(answer, set)
 }
 
@@ -163,7 +163,7 @@ pub extern "C" fn duty_happen(table: &[u8], marking: &mut [u8], event: usize) ->
     ensures marking { marking.new ≡ put_back result (on happen table.now marking.old event).marking marking.old }
 {
     let answer = images::on(table, &marking[..], |i| {
-        engine::happen(&i.table, &i.marking, event)
+        engine::happen(i.table, i.marking, event)
     });
     acting::put_back(&answer, marking)
 }
@@ -176,7 +176,7 @@ pub extern "C" fn duty_plain_tick(table: &[u8], marking: &mut [u8]) -> u8
     ensures marking { marking.new ≡ put_back result (on plain_tick table.now marking.old).marking marking.old }
 {
     let answer = images::on(table, &marking[..], |i| {
-        engine::plain_tick(&i.table, &i.marking)
+        engine::plain_tick(i.table, i.marking)
     });
     acting::put_back(&answer, marking)
 }
@@ -196,7 +196,7 @@ pub extern "C" fn duty_margin(
     ensures ticks { ticks.new ≡ done result (on told_margin table.now marking.now relation).ticks ticks.old }
 {
     let answer = images::on(table, marking, |i| {
-        engine::margin(&i.table, &i.marking, relation)
+        engine::margin(i.table, i.marking, relation)
     });
     telling::tell_both(answer.map(telling::margin), kind, ticks)
 }
@@ -217,7 +217,7 @@ pub extern "C" fn duty_hold_up(
         (on told_hold_up table.now marking.now event).relation relation.old }
 {
     let answer = images::on(table, marking, |i| {
-        engine::hold_up(&i.table, &i.marking, event)
+        engine::hold_up(i.table, i.marking, event)
     });
     telling::tell_both(answer.map(telling::hold_up), kind, relation)
 }
@@ -239,7 +239,7 @@ pub extern "C" fn duty_chain(
         (on chain_answer table.now marking.now event (length list.old)).count count.old }
 {
     let answer = images::on_lent(table, marking, list, |i, list| {
-        chain::chain(&i.table, &i.marking, event, list)
+        chain::chain(i.table, i.marking, event, list)
     });
     telling::tell(answer, count)
 }
@@ -252,7 +252,7 @@ pub extern "C" fn duty_closure(table: &[u8], marking: &[u8], set: &mut u64, size
     ensures set { set.new ≡ done result (on closure_answer table.now marking.now).set set.old }
     ensures size { size.new ≡ done result (on closure_answer table.now marking.now).size size.old }
 {
-    let answer = images::on(table, marking, |i| engine::closure(&i.table, &i.marking));
+    let answer = images::on(table, marking, |i| engine::closure(i.table, i.marking));
     telling::tell_both(answer.map(telling::closure), set, size)
 }
 
@@ -266,7 +266,7 @@ pub extern "C" fn duty_check(table: &[u8], marking: &[u8], reason: &mut u8, plac
     ensures place { place.new ≡ done (images_number table.now marking.now)
         (on told_check table.now marking.now).place place.old }
 {
-    let answer = images::on(table, marking, |i| engine::check(&i.table, &i.marking));
+    let answer = images::on(table, marking, |i| engine::check(i.table, i.marking));
     verdict::tell(&answer, reason, place)
 }
 
@@ -328,7 +328,7 @@ pub extern "C" fn duty_sleep(
         (on sleep_answer table.now marking.old ticks (length list.old)).place place.old) place.old }
 {
     let answer = images::on_lent(table, &marking[..], list, |i, list| {
-        sleep::sleep(&i.table, &i.marking, ticks, list)
+        sleep::sleep(i.table, i.marking, ticks, list)
     });
     if let Ok(slept) = &answer {
         *count = slept.count;
@@ -345,7 +345,7 @@ pub extern "C" fn duty_quiet(table: &[u8], marking: &[u8], ticks: &mut usize) ->
     ensures ticks { ticks.new ≡ done result
         (on quiet_answer table.now marking.now).ticks ticks.old }
 {
-    let answer = images::on(table, marking, |i| sleep::quiet(&i.table, &i.marking));
+    let answer = images::on(table, marking, |i| sleep::quiet(i.table, i.marking));
     telling::tell(answer, ticks)
 }
 
@@ -387,7 +387,7 @@ pub extern "C" fn duty_run(table: &[u8], marking: &mut [u8], steps: &[u8], answe
         (on run_bytes_answers table.now marking.old steps.now answers.old) answers.old }
 {
     let answer = images::on_lent(table, &marking[..], answers, |i, answers| {
-        engine::run_bytes(&i.table, &i.marking, steps, answers)
+        engine::run_bytes(i.table, i.marking, steps, answers)
     });
     acting::put_back(&answer, marking)
 }

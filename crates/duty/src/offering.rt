@@ -9,14 +9,14 @@ use rules::Refusal;
 
 // 0 for the preferred list, 1 for the fallback. A function, and no closure in the call: one that answers a `Remedy` the borrow checker does not cover.
 pub fn remedies<'a>(
-    i: &Images,
+    i: Images<'_>,
     preferred: &'a [u8],
     fallback: &'a [u8],
 ) -> Result<(u8, usize), Refusal>
-    ensures number { number_of result ≡ (remedy i.now.table i.now.marking preferred.now fallback.now).number }
-    ensures start { let told = remedy i.now.table i.now.marking preferred.now fallback.now in
+    ensures number { number_of result ≡ (remedy i.entry.table.now i.entry.marking.now preferred.now fallback.now).number }
+    ensures start { let told = remedy i.entry.table.now i.entry.marking.now preferred.now fallback.now in
         IfOk result (λ r. r ≡ (bit told.fallback, told.length)) }
 {
-    let remedy = engine::remedies(&i.table, &i.marking, preferred, fallback)?;
+    let remedy = engine::remedies(i.table, i.marking, preferred, fallback)?;
     Ok((remedy.fallback as u8, remedy.start.len()))
 }

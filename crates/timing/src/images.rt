@@ -15,15 +15,18 @@ fn byte(bytes: &[u8], at: usize) -> u8 {
     bytes.get(at).copied().unwrap_or(0)
 }
 
+// In a loop of its own: a closure clears a place for the table before each call, and that would be counted as the reader's.
 #[unsafe(no_mangle)]
 pub extern "C" fn timing_read_table(bytes: &mut [u8], times: usize) -> u64 {
     if bytes.len() < 5 {
         return 0;
     }
-    turns::sums(times, |sum| {
-        set(bytes, 4, 64 + 128 * (sum % 2) as u8);
-        fold::outcome(sum, &image::read_table(bytes), &turns::NO_TABLE)
-    })
+    let mut sum = 1;
+    for _ in 0..times {
+        bytes[4] = 64 + 128 * (sum % 2) as u8;
+        sum = fold::outcome(sum, &image::read_table(bytes), &turns::NO_TABLE);
+    }
+    sum
 }
 
 #[unsafe(no_mangle)]

@@ -13,12 +13,12 @@ pub const NO_TABLE: Table = Table {
 
 #[inline(always)]
 pub fn table(bytes: &[u8]) -> Table {
-    image::read_table(bytes).unwrap_or(NO_TABLE)
+    image::read_table(bytes).unwrap_or_else(|_| NO_TABLE)
 }
 
 #[inline(always)]
 pub fn marking(events: usize, bytes: &[u8]) -> Marking {
-    image::read_marking(events, bytes).unwrap_or(Marking::empty())
+    image::read_marking(events, bytes).unwrap_or_else(|_| Marking::empty())
 }
 
 // The record of event 0 as it was at first, but for its age, which the sum decides.

@@ -1,8 +1,9 @@
 //! How much stack compiled functions take at most, read from what
 //! `objdump -dr -C --no-show-raw-insn` says of them. A function's own part is its
 //! return address, everything it pushes and everything it takes from the stack
-//! pointer, wherever in it that stands; below it comes the deepest of the
-//! functions it calls. Functions that call each other are refused, but for those
+//! pointer, wherever in it that stands; below it comes the deepest of the functions
+//! it calls, or, where it calls none, what it uses below the stack pointer without
+//! taking it. Functions that call each other are refused, but for those
 //! of which a table says how often they do. The C library's memcpy and memset are
 //! not counted.
 
@@ -11,6 +12,7 @@ use std::collections::BTreeMap;
 #[derive(Default, Debug, PartialEq, Eq)]
 struct Function {
     own: usize,
+    below: usize,
     calls: Vec<String>,
 }
 
@@ -80,11 +82,23 @@ fn itself(operands: &str) -> Option<&str> {
     (!name.contains("+0x")).then_some(name)
 }
 
+/// `-0x20(%rsp)`: how far below the stack pointer that is.
+fn below(operands: &str) -> Option<usize> {
+    let digits = operands.split_once("-0x")?.1.split_once("(%rsp")?.0;
+    usize::from_str_radix(digits, 16).ok()
+}
+
 fn literal(word: &str) -> Option<usize> {
     usize::from_str_radix(word.strip_prefix("$0x")?, 16).ok()
 }
 
 impl Function {
+    /// A function that calls another takes all that it uses; what it says of a place
+    /// below the stack pointer is an index's part then.
+    fn taken(&self) -> usize {
+        self.own + if self.calls.is_empty() { self.below } else { 0 }
+    }
+
     /// Takes one more instruction in; an error where it hides what is called or taken.
     fn step(&mut self, word: &str, operands: &str) -> Result<(), String> {
         match (word, operands.rsplit_once(',')) {
@@ -96,7 +110,7 @@ impl Function {
             ("and", Some((_, "%rsp"))) => return Err(format!("and {operands}")),
             ("call", _) if operands.starts_with('*') => return Err(format!("call {operands}")),
             ("call", _) => self.calls.extend(itself(operands).map(str::to_string)),
-            _ => {}
+            _ => self.below = self.below.max(below(operands).unwrap_or(0)),
         }
         Ok(())
     }
@@ -110,7 +124,7 @@ impl Program {
             if let Some(new) = heading(line) {
                 let start = Function {
                     own: ADDRESS,
-                    calls: Vec::new(),
+                    ..Function::default()
                 };
                 functions.insert(new.to_string(), start);
                 name = Some(new);
@@ -166,13 +180,13 @@ impl Program {
         let (mut own, mut below) = (0, (0, Vec::new()));
         for name in names {
             let function = self.function(name)?;
-            if let Some(most) = cycle.map(|c| c.frame).filter(|most| function.own > *most) {
-                let taken = function.own;
+            let taken = function.taken();
+            if let Some(most) = cycle.map(|c| c.frame).filter(|most| taken > *most) {
                 return Err(format!(
                     "{name} takes {taken} bytes again and again: {most} at most"
                 ));
             }
-            own += times * function.own;
+            own += times * taken;
             for called in &function.calls {
                 let within = cycle.is_some_and(|c| c.functions.contains(&called.as_str()));
                 if !within && !LIBRARY.contains(&called.as_str()) {
@@ -248,6 +262,31 @@ mod tests {
         let (bytes, way) = program.deepest("duty_one", &[]).expect("no recursion");
         assert_eq!(bytes, 8 + 8 + 0x20 + 8 + 0x100);
         assert_eq!(way, ["duty_one", "engine::judge::judge"]);
+    }
+
+    #[test]
+    fn what_is_used_below_the_stack_pointer_counts() {
+        let small = "<small>:\n   0:\t";
+        for (used, bytes) in [
+            ("mov    %rax,-0x20(%rsp)", 0x20),
+            ("mov    -0x8(%rsp,%rax,4),%rax", 8),
+            ("mov    0x8(%rsp),%rax", 0),
+        ] {
+            let text = TEXT.replace(small, &format!("{small}{used}\n   5:\t"));
+            let program = read(&text).expect("plain code");
+            let (all, _) = program.deepest("small", &[]).expect("no recursion");
+            assert_eq!(all, 8 + bytes, "{used}");
+        }
+        // Of a function that calls another it is none.
+        let whole = |text: &str| read(text).expect("plain code").deepest("duty_one", &[]);
+        let text = TEXT.replace(
+            "push   %rbp",
+            "push   %rbp\n   1:\tmov    -0x90(%rsp,%rax,8),%rax",
+        );
+        assert_eq!(
+            whole(&text).expect("no recursion"),
+            whole(TEXT).expect("no recursion")
+        );
     }
 
     #[test]

@@ -11,5 +11,5 @@ pub returns-clause-start : goal.returns-clause-start
 returns-clause-start c =
     let a = c.args in
     let found = c.in_ok-remedy.ensures in
-    let long = start_long a.i.now.table a.i.now.marking a.preferred.now a.fallback.now (sym found.number) in
+    let long = start_long a.i.table.now a.i.marking.now a.preferred.now a.fallback.now (sym found.number) in
     ap₂ (λ (list count : ℕ). (list, count)) (flag_byte c.in_ok-remedy.remedy.fallback ∙ ap bit found.fallback) (ap length found.stretch ∙ long)

@@ -1,0 +1,29 @@
+-- The table's refusal, else the marking's; else the rule is asked of what is read.
+use Rattle.std.proofs.Common.{arith}
+use Rattle.std.proofs.lemmas.Grind.{common_steps}
+use Rattle.rules.specs.Images.{table_of, marking_of, images_number}
+use Rattle.duty.proofs.images.on.Goals as goal
+
+pub returns-in_err-table-clause-unread : goal.returns-in_err-table-clause-unread
+unfolding images_number
+returns-in_err-table-clause-unread g c = grind (arith, common_steps)
+
+pub returns-in_err-table-clause-ruled : goal.returns-in_err-table-clause-ruled
+unfolding images_number
+returns-in_err-table-clause-ruled g c = grind (arith, common_steps)
+
+pub returns-in_err-marking-clause-unread : goal.returns-in_err-marking-clause-unread
+unfolding images_number table_of
+returns-in_err-marking-clause-unread g c = grind (arith, common_steps)
+
+pub returns-in_err-marking-clause-ruled : goal.returns-in_err-marking-clause-ruled
+unfolding images_number table_of
+returns-in_err-marking-clause-ruled g c = grind (arith, common_steps)
+
+pub returns-clause-unread : goal.returns-clause-unread
+unfolding images_number table_of
+returns-clause-unread g c = grind (arith, common_steps)
+
+pub returns-clause-ruled : goal.returns-clause-ruled
+unfolding table_of marking_of
+returns-clause-ruled g c = grind (arith, common_steps)
