@@ -16,7 +16,7 @@ pub struct Classes {
 
 impl Classes {
     // The byte of an event's classes.
-    pub(crate) fn byte(self, e: usize) -> u8
+    pub fn byte(self, e: usize) -> u8
         requires { e < most_events }
         ensures { result ≡ class_word self.controllable self.causable e }
     {

@@ -12,11 +12,11 @@ mod state_calls;
 use std::io::{Stdin, Stdout};
 use wire::answer::Answer;
 use wire::call::Call;
-use wire::frame;
+use wire::{frame, list};
 
 // One call; None at the end of the input. A number that no call has gets the empty answer.
 fn turn(input: Stdin, output: Stdout) -> Option<()> {
-    let mut room = [0u8; 20000];
+    let mut room = [0u8; list::BUFFER];
     let frame = frame::next(input, &mut room)?;
     let mut answer = Answer::new();
     if let Ok(call) = Call::try_from(frame.call) {

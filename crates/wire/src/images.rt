@@ -80,3 +80,19 @@ pub fn carry_marking(payload: &[u8], answer: &mut Answer) {
         |buffer| image::carry_marking(events, old, buffer),
     );
 }
+
+// What no call over the wire asks of the image reader is asked here.
+#[cfg(test)]
+mod tests {
+    // Controllable is the first bit, causable the second, and 6 spare bits are 0.
+    #[test]
+    fn class_bytes(rt: HostRuntime) {
+        let classes = image::Classes {
+            controllable: 1 << 1 | 1 << 3 | 1 << 63,
+            causable: 1 << 2 | 1 << 3,
+        };
+        for (e, want) in [(0, 0), (1, 128), (2, 64), (3, 192), (4, 0), (63, 128)] {
+            assert_eq!(rt; classes.byte(e), want, "event {e}");
+        }
+    }
+}
