@@ -81,7 +81,7 @@ pub fn carry_marking(payload: &[u8], answer: &mut Answer) {
     );
 }
 
-// What no call over the wire asks of the image reader is asked here.
+// Functions of `image` that no call over the wire uses.
 #[cfg(test)]
 mod tests {
     // Controllable is the first bit, causable the second, and 6 spare bits are 0.

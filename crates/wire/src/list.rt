@@ -3,7 +3,7 @@ ghost use Rattle.std.specs.Prelude.{◌≤◌, length};
 
 use crate::payload::{Given, Payload};
 
-// No payload has a longer buffer: `trial` reads one into so many bytes.
+// No payload has a longer buffer: `trial` reads a payload into so many bytes.
 pub const BUFFER: usize = 20000;
 
 // The list that stands on the wire in so many bytes a place, as far as there is room for it. In 0 bytes a place no list stands.
